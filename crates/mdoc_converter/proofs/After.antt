@@ -2,13 +2,13 @@
 use Rattle.std.proofs.Common.{◌≡◌, ℕ, ◌≤◌, List, [], ◌∷◌, ◌++◌, refl, sym, ◌∙◌, ap, append_assoc}
 use Rattle.mdoc_converter.specs.declared.page.Scan.TheVariants as scans
 use Rattle.mdoc_converter.specs.Reading.{State, heard}
-use Rattle.mdoc_converter.specs.Saying.{parts_at, parts_of, state_behind, words_of}
+use Rattle.mdoc_converter.specs.Saying.{parts_at, parts_of, state_after, words_of}
 use Rattle.mdoc_converter.proofs.Escapes.{heard-pending}
-use Rattle.mdoc_converter.proofs.Meeting.{Takes, takes-state}
+use Rattle.mdoc_converter.proofs.Offering.{Takes, takes-state}
 use Rattle.mdoc_converter.proofs.Saying.{words_of-append}
 
 abbrev pub after : State → List ℕ → State
-after s bs = state_behind s bs
+after s bs = state_after s bs
 
 pub after-append : (s : State) (xs ys : List ℕ) → after s (xs ++ ys) ≡ after (after s xs) ys
 after-append s [] ys = refl

@@ -13,14 +13,14 @@ use Rattle.mdoc_converter.specs.Escaping.{escape_then}
 use Rattle.mdoc_converter.specs.Keeping.{after_name, comment, continued, ends_escape, ends_word, in_named, in_word_of, keep, keep_begun, keep_blank, keep_byte, keep_quote, keeping, turns, whole_for}
 use Rattle.mdoc_converter.specs.Options.{is_heading, reads_for}
 use Rattle.mdoc_converter.specs.Reading.{State}
-use Rattle.mdoc_converter.specs.Scanning.{meet, meet_at}
-use Rattle.mdoc_converter.specs.Seeing.{Met, met, left, taken}
+use Rattle.mdoc_converter.specs.Scanning.{offer, offer_at}
+use Rattle.mdoc_converter.specs.Seeing.{Offered, offered, left, taken}
 use Rattle.mdoc_converter.specs.WrittenLines.{asks}
 use Rattle.mdoc_converter.proofs.AskedWords.{Asking, asking_as, Leading, Taking, left_leads, taken_takes, cell_takes, given_step, kept, kept_byte, asks_shown, asks_whole}
 use Rattle.mdoc_converter.proofs.ReadWords.{between_by}
-use Rattle.mdoc_converter.proofs.Meeting.{with_page, Takes, then_takes, takes_with}
+use Rattle.mdoc_converter.proofs.Offering.{with_page, Takes, then_takes, takes_with}
 use Rattle.mdoc_converter.proofs.Outcomes.{never}
-use Rattle.mdoc_converter.proofs.WordRoom.{after_met, named_met, named_rest}
+use Rattle.mdoc_converter.proofs.WordRoom.{after_offered, named_offered, named_rest}
 
 -- ---- between bytes
 
@@ -33,7 +33,7 @@ is_inside scans.Closing = true
 is_inside (scans.Named reached quoted) = true
 is_inside scan = false
 
--- a byte is taken in a few meetings, and the line is read further so
+-- a byte is taken in a few steps, and the line is read further so
 pub record Heard (m : Macro) (b : ℕ) (s : State) (k : ℕ) : Type 0 where
   pub next : State
   pub steps : ℕ
@@ -66,19 +66,19 @@ heard_within m b s j k l h =
 -- ---- one byte that is no newline and no backslash
 
 -- in a word
-pub word_met : (b : ℕ) (p : Page) (t : Bool) → p.scan ≡ scans.Word → ends_word b ≡ t → (b == code "\\") ≡ false
-    → meet b p ≡ (if t then met (with_scan (scans.Given false) p) (left acts.Nothing) else keep_byte b false p)
-unfolding meet
-word_met b p t e f g =
-    ap (λ (sc : Scan). meet_at sc b p) e
-    ∙ ap (λ (u : Bool). if u then met (with_scan (scans.Given false) p) (left acts.Nothing) else if b == code "\\" then met (with_scan scans.Escape p) (taken acts.Nothing) else keep_byte b false p) f
-    ∙ ap (λ (u : Bool). if t then met (with_scan (scans.Given false) p) (left acts.Nothing) else if u then met (with_scan scans.Escape p) (taken acts.Nothing) else keep_byte b false p) g
+pub word_offered : (b : ℕ) (p : Page) (t : Bool) → p.scan ≡ scans.Word → ends_word b ≡ t → (b == code "\\") ≡ false
+    → offer b p ≡ (if t then offered (with_scan (scans.Given false) p) (left acts.Nothing) else keep_byte b false p)
+unfolding offer
+word_offered b p t e f g =
+    ap (λ (sc : Scan). offer_at sc b p) e
+    ∙ ap (λ (u : Bool). if u then offered (with_scan (scans.Given false) p) (left acts.Nothing) else if b == code "\\" then offered (with_scan scans.Escape p) (taken acts.Nothing) else keep_byte b false p) f
+    ∙ ap (λ (u : Bool). if t then offered (with_scan (scans.Given false) p) (left acts.Nothing) else if u then offered (with_scan scans.Escape p) (taken acts.Nothing) else keep_byte b false p) g
 
-pub between_met : (m : Macro) (b : ℕ) (p : Page) → Asking m p scans.Between
-    → meet b p ≡ between_by false (b == code " ") (b == code "\t") (b == code "\n") (b == code "\"") p
-unfolding meet between_by
-between_met m b p at =
-    ap (λ (sc : Scan). meet_at sc b p) at.scan_is
+pub between_offered : (m : Macro) (b : ℕ) (p : Page) → Asking m p scans.Between
+    → offer b p ≡ between_by false (b == code " ") (b == code "\t") (b == code "\n") (b == code "\"") p
+unfolding offer between_by
+between_offered m b p at =
+    ap (λ (sc : Scan). offer_at sc b p) at.scan_is
     ∙ ap (λ (t : Bool). between_by t (b == code " ") (b == code "\t") (b == code "\n") (b == code "\"") p) at.comment
 
 begun : Scan → Page → Page
@@ -93,7 +93,7 @@ word_heard : (m : Macro) (b : ℕ) (s : State) → asks m ≡ true → Asking m 
 unfolding is_inside
 word_heard m b s h at e f =
     heard_of m b s 1 scans.Word (omega arith) refl
-    (kept_byte m b false s s.page scans.Word h (word_met b s.page false at.scan_is e f) at)
+    (kept_byte m b false s s.page scans.Word h (word_offered b s.page false at.scan_is e f) at)
 
 none_ends : (t u v : Bool) → t ≡ false → u ≡ false → v ≡ false → (t || u || v) ≡ false
 none_ends t u v e f g = cc
@@ -105,18 +105,18 @@ between_heard true u q m b s h at e f g i j =
     let p = s.page in
     heard_of m b s 2 scans.Between (omega arith) refl
     (taken_takes m b s p scans.Between
-    (between_met m b p at ∙ ap (λ (t : Bool). between_by false t (b == code "\t") (b == code "\n") (b == code "\"") p) e) at)
+    (between_offered m b p at ∙ ap (λ (t : Bool). between_by false t (b == code "\t") (b == code "\n") (b == code "\"") p) e) at)
 between_heard false true q m b s h at e f g i j =
     let p = s.page in
     heard_of m b s 2 scans.Between (omega arith) refl
     (cell_takes m b s p scans.Between
-    (between_met m b p at ∙ ap (λ (t : Bool). between_by false t (b == code "\t") (b == code "\n") (b == code "\"") p) e
+    (between_offered m b p at ∙ ap (λ (t : Bool). between_by false t (b == code "\t") (b == code "\n") (b == code "\"") p) e
     ∙ ap (λ (t : Bool). between_by false false t (b == code "\n") (b == code "\"") p) f) at)
 between_heard false false true m b s h at e f g i j =
     let p = s.page in
     heard_of m b s 2 scans.Quoted (omega arith) refl
     (taken_takes m b s (begun scans.Quoted p) scans.Quoted
-    (between_met m b p at ∙ ap (λ (t : Bool). between_by false t (b == code "\t") (b == code "\n") (b == code "\"") p) e
+    (between_offered m b p at ∙ ap (λ (t : Bool). between_by false t (b == code "\t") (b == code "\n") (b == code "\"") p) e
     ∙ ap (λ (t : Bool). between_by false false t (b == code "\n") (b == code "\"") p) f
     ∙ ap (λ (t : Bool). between_by false false false t (b == code "\"") p) g
     ∙ ap (λ (t : Bool). between_by false false false false t p) i)
@@ -124,14 +124,14 @@ between_heard false false true m b s h at e f g i j =
 between_heard false false false m b s h at e f g i j =
     let p = s.page in
     let one = left_leads m b s (begun scans.Word p) scans.Word
-    (between_met m b p at ∙ ap (λ (t : Bool). between_by false t (b == code "\t") (b == code "\n") (b == code "\"") p) e
+    (between_offered m b p at ∙ ap (λ (t : Bool). between_by false t (b == code "\t") (b == code "\n") (b == code "\"") p) e
     ∙ ap (λ (t : Bool). between_by false false t (b == code "\n") (b == code "\"") p) f
     ∙ ap (λ (t : Bool). between_by false false false t (b == code "\"") p) g
     ∙ ap (λ (t : Bool). between_by false false false false t p) i)
     (begun_asking m scans.Word scans.Between p at) in
     heard_after m b s 1 scans.Word one (word_heard m b one.next h one.at (none_ends (b == code " ") (b == code "\t") (b == code "\n") e f g) j)
 
--- a word that is whole is read for what it asks, and the byte behind it is met again
+-- a word that is whole is read for what it asks, and the byte after it is offered again
 given_heard : (quoted : Bool) (m : Macro) (b : ℕ) (s : State) → asks m ≡ true → Asking m s.page (scans.Given quoted)
     → (b == code "\n") ≡ false → (b == code "\\") ≡ false → Heard m b s 3
 given_heard quoted m b s h at e f =
@@ -146,11 +146,11 @@ word_byte : (t : Bool) (m : Macro) (b : ℕ) (s : State) → asks m ≡ true →
     → (b == code "\n") ≡ false → (b == code "\\") ≡ false → Heard m b s 4
 word_byte true m b s h at e f g =
     let p = s.page in
-    let one = left_leads m b s (with_scan (scans.Given false) p) (scans.Given false) (word_met b p true at.scan_is e g) (given_asking m false scans.Word p at) in
+    let one = left_leads m b s (with_scan (scans.Given false) p) (scans.Given false) (word_offered b p true at.scan_is e g) (given_asking m false scans.Word p at) in
     heard_after m b s 3 (scans.Given false) one (given_heard false m b one.next h one.at f g)
 word_byte false m b s h at e f g = heard_within m b s 1 4 (omega arith) (word_heard m b s h at e g)
 
-unfoldable pub quoted_rest : ℕ → Page → Met
+unfoldable pub quoted_rest : ℕ → Page → Offered
 quoted_rest b p = if (b == code " ") && whole_for p.call.taker p then keep_blank p else keep_byte b true p
 
 and_no : (a b : Bool) → b ≡ false → (a && b) ≡ false
@@ -159,55 +159,55 @@ and_no false b e = refl
 
 quoted_byte : (t : Bool) (m : Macro) (b : ℕ) (s : State) → asks m ≡ true → Asking m s.page scans.Quoted → (b == code "\"") ≡ t
     → (b == code "\n") ≡ false → (b == code "\\") ≡ false → Heard m b s 4
-unfolding meet is_inside quoted_rest
+unfolding offer is_inside quoted_rest
 quoted_byte true m b s h at e f g =
     let p = s.page in
     heard_of m b s 4 scans.Closing (omega arith) refl
     (taken_takes m b s (with_scan scans.Closing p) scans.Closing
-    (ap (λ (sc : Scan). meet_at sc b p) at.scan_is
-    ∙ ap (λ (t : Bool). if t then met (with_scan scans.Closing p) (taken acts.Nothing) else if b == code "\n" then met (with_scan (scans.Given true) p) (left acts.Nothing) else if b == code "\\" then met (with_scan scans.QuotedEscape p) (taken acts.Nothing) else quoted_rest b p) e)
+    (ap (λ (sc : Scan). offer_at sc b p) at.scan_is
+    ∙ ap (λ (t : Bool). if t then offered (with_scan scans.Closing p) (taken acts.Nothing) else if b == code "\n" then offered (with_scan (scans.Given true) p) (left acts.Nothing) else if b == code "\\" then offered (with_scan scans.QuotedEscape p) (taken acts.Nothing) else quoted_rest b p) e)
     (asking_as m scans.Closing p _ refl refl refl refl refl refl refl at))
 quoted_byte false m b s h at e f g =
     let p = s.page in
     heard_of m b s 4 scans.Quoted (omega arith) refl
     (kept_byte m b true s p scans.Quoted h
-    (ap (λ (sc : Scan). meet_at sc b p) at.scan_is
-    ∙ ap (λ (t : Bool). if t then met (with_scan scans.Closing p) (taken acts.Nothing) else if b == code "\n" then met (with_scan (scans.Given true) p) (left acts.Nothing) else if b == code "\\" then met (with_scan scans.QuotedEscape p) (taken acts.Nothing) else quoted_rest b p) e
-    ∙ ap (λ (t : Bool). if t then met (with_scan (scans.Given true) p) (left acts.Nothing) else if b == code "\\" then met (with_scan scans.QuotedEscape p) (taken acts.Nothing) else quoted_rest b p) f
-    ∙ ap (λ (t : Bool). if t then met (with_scan scans.QuotedEscape p) (taken acts.Nothing) else quoted_rest b p) g
+    (ap (λ (sc : Scan). offer_at sc b p) at.scan_is
+    ∙ ap (λ (t : Bool). if t then offered (with_scan scans.Closing p) (taken acts.Nothing) else if b == code "\n" then offered (with_scan (scans.Given true) p) (left acts.Nothing) else if b == code "\\" then offered (with_scan scans.QuotedEscape p) (taken acts.Nothing) else quoted_rest b p) e
+    ∙ ap (λ (t : Bool). if t then offered (with_scan (scans.Given true) p) (left acts.Nothing) else if b == code "\\" then offered (with_scan scans.QuotedEscape p) (taken acts.Nothing) else quoted_rest b p) f
+    ∙ ap (λ (t : Bool). if t then offered (with_scan scans.QuotedEscape p) (taken acts.Nothing) else quoted_rest b p) g
     ∙ ap (λ (k : Macro). if (b == code " ") && whole_for k p then keep_blank p else keep_byte b true p) at.taker
     ∙ ap (λ (t : Bool). if t then keep_blank p else keep_byte b true p)
     (and_no (b == code " ") (whole_for m p) (asks_whole m p h)))
     at)
 
-quote_rest : Bool → Page → Met
+quote_rest : Bool → Page → Offered
 quote_rest full p =
-    if full then met (with_scan (scans.Long insides.Closing) p) (left acts.Nothing) else keep (code "\"") true (with_scan scans.Quoted p)
+    if full then offered (with_scan (scans.Long insides.Closing) p) (left acts.Nothing) else keep (code "\"") true (with_scan scans.Quoted p)
 
 closing_byte : (t : Bool) (m : Macro) (b : ℕ) (s : State) → asks m ≡ true → Asking m s.page scans.Closing → (b == code "\"") ≡ t
     → (b == code "\n") ≡ false → (b == code "\\") ≡ false → Heard m b s 4
-unfolding meet is_inside quote_rest
+unfolding offer is_inside quote_rest
 closing_byte true m b s h at e f g =
     let p = s.page in
     let q = with_scan scans.Quoted p in
     heard_of m b s 4 scans.Quoted (omega arith) refl
     (kept m b (code "\"") true s q scans.Quoted h
-    (ap (λ (sc : Scan). meet_at sc b p) at.scan_is
-    ∙ ap (λ (t : Bool). if t then keep_quote p else met (with_scan (scans.Given true) p) (left acts.Nothing)) e
+    (ap (λ (sc : Scan). offer_at sc b p) at.scan_is
+    ∙ ap (λ (t : Bool). if t then keep_quote p else offered (with_scan (scans.Given true) p) (left acts.Nothing)) e
     ∙ ap (λ (k : Macro). quote_rest (not (nat_lt (length p.word) 30) && (not (reads_for k) || is_heading k)) p) at.taker
     ∙ ap (λ (t : Bool). quote_rest t p) (and_no (not (nat_lt (length p.word) 30)) (not (reads_for m) || is_heading m) (asks_shown m h)))
     (asking_as m scans.Quoted p _ refl refl refl refl refl refl refl at))
 closing_byte false m b s h at e f g =
     let p = s.page in
     let one = left_leads m b s (with_scan (scans.Given true) p) (scans.Given true)
-    (ap (λ (sc : Scan). meet_at sc b p) at.scan_is
-    ∙ ap (λ (t : Bool). if t then keep_quote p else met (with_scan (scans.Given true) p) (left acts.Nothing)) e)
+    (ap (λ (sc : Scan). offer_at sc b p) at.scan_is
+    ∙ ap (λ (t : Bool). if t then keep_quote p else offered (with_scan (scans.Given true) p) (left acts.Nothing)) e)
     (given_asking m true scans.Closing p at) in
     heard_after m b s 3 (scans.Given true) one (given_heard true m b one.next h one.at f g)
 
 -- in the name or the argument of an escape
 named_taken : (t : Bool) (reached : Reached) (quoted : Bool) (m : Macro) (b : ℕ) (s : State) → asks m ≡ true → Asking m s.page (scans.Named reached quoted)
-    → meet b s.page ≡ named_rest (nat_lt (length s.page.word) 30) reached quoted b s.page → nat_lt (length s.page.word) 30 ≡ t
+    → offer b s.page ≡ named_rest (nat_lt (length s.page.word) 30) reached quoted b s.page → nat_lt (length s.page.word) 30 ≡ t
     → Taking m b s 1 (in_named (escape_then reached b) quoted)
 unfolding named_rest
 named_taken true reached quoted m b s h at e room =
@@ -246,14 +246,14 @@ named_byte true reached quoted m b s h at e f g =
       steps = w.steps;
       some = w.some;
       few = w.few;
-      takes = takes_with b s w.next here w.steps [] (named_met quoted reached b s.page true at.scan_is e ∙ after_met quoted b s.page) w.some w.takes;
+      takes = takes_with b s w.next here w.steps [] (named_offered quoted reached b s.page true at.scan_is e ∙ after_offered quoted b s.page) w.some w.takes;
       scan = w.scan;
       at = w.at;
       inside = w.inside;
     }
 named_byte false reached quoted m b s h at e f g =
     heard_of m b s 4 (in_named (escape_then reached b) quoted) (omega arith) (inside_named (escape_then reached b) quoted)
-    (named_taken (nat_lt (length s.page.word) 30) reached quoted m b s h at (named_met quoted reached b s.page false at.scan_is e) refl)
+    (named_taken (nat_lt (length s.page.word) 30) reached quoted m b s h at (named_offered quoted reached b s.page false at.scan_is e) refl)
 
 pub byte_heard : (scan : Scan) (m : Macro) (b : ℕ) (s : State) → asks m ≡ true → Asking m s.page scan → is_inside scan ≡ true
     → (b == code "\n") ≡ false → (b == code "\\") ≡ false → Heard m b s 4
@@ -271,7 +271,7 @@ byte_heard scan m b s h at i f g = never i
 unfoldable pub escape_of : Bool → Scan
 escape_of quoted = if quoted then scans.QuotedEscape else scans.Escape
 
--- its backslash is taken in a few meetings
+-- its backslash is taken in a few steps
 pub record Slash (m : Macro) (s : State) (k : ℕ) : Type 0 where
   pub next : State
   pub steps : ℕ
@@ -280,8 +280,8 @@ pub record Slash (m : Macro) (s : State) (k : ℕ) : Type 0 where
   pub quoted : Bool
   pub at : Asking m next.page (escape_of quoted)
 
-slash_behind : (m : Macro) (s : State) (k : ℕ) (scan : Scan) (one : Leading m (code "\\") s 1 scan) → Slash m one.next k → Slash m s (1 + k)
-slash_behind m s k scan one h = record {
+slash_after : (m : Macro) (s : State) (k : ℕ) (scan : Scan) (one : Leading m (code "\\") s 1 scan) → Slash m one.next k → Slash m s (1 + k)
+slash_after m s k scan one h = record {
   next = h.next;
   steps = 1 + h.steps;
   few = (let few = h.few in omega arith);
@@ -295,10 +295,10 @@ slash_within m s j k l h =
     record { next = h.next; steps = h.steps; few = (let few = h.few in omega arith); takes = h.takes; quoted = h.quoted; at = h.at }
 
 word_slash : (m : Macro) (s : State) → Asking m s.page scans.Word → Slash m s 1
-unfolding meet escape_of
+unfolding offer escape_of
 word_slash m s at =
     let p = s.page in
-    let t = taken_takes m (code "\\") s (with_scan scans.Escape p) scans.Escape (ap (λ (sc : Scan). meet_at sc (code "\\") p) at.scan_is)
+    let t = taken_takes m (code "\\") s (with_scan scans.Escape p) scans.Escape (ap (λ (sc : Scan). offer_at sc (code "\\") p) at.scan_is)
     (asking_as m scans.Escape p _ refl refl refl refl refl refl refl at) in
     record { next = t.next; steps = 1; few = omega arith; takes = t.takes; quoted = false; at = t.at }
 
@@ -306,47 +306,47 @@ between_slash : (m : Macro) (s : State) → Asking m s.page scans.Between → Sl
 unfolding between_by begun
 between_slash m s at =
     let p = s.page in
-    let one = left_leads m (code "\\") s (begun scans.Word p) scans.Word (between_met m (code "\\") p at) (begun_asking m scans.Word scans.Between p at) in
-    slash_behind m s 1 scans.Word one (word_slash m one.next one.at)
+    let one = left_leads m (code "\\") s (begun scans.Word p) scans.Word (between_offered m (code "\\") p at) (begun_asking m scans.Word scans.Between p at) in
+    slash_after m s 1 scans.Word one (word_slash m one.next one.at)
 
 named_slash : (reached : Reached) (quoted : Bool) (m : Macro) (s : State) → Asking m s.page (scans.Named reached quoted) → Slash m s 1
-unfolding meet escape_of
+unfolding offer escape_of
 named_slash reached true m s at =
     let p = s.page in
-    let t = taken_takes m (code "\\") s (with_scan scans.QuotedEscape p) scans.QuotedEscape (ap (λ (sc : Scan). meet_at sc (code "\\") p) at.scan_is)
+    let t = taken_takes m (code "\\") s (with_scan scans.QuotedEscape p) scans.QuotedEscape (ap (λ (sc : Scan). offer_at sc (code "\\") p) at.scan_is)
     (asking_as m scans.QuotedEscape p _ refl refl refl refl refl refl refl at) in
     record { next = t.next; steps = 1; few = omega arith; takes = t.takes; quoted = true; at = t.at }
 named_slash reached false m s at =
     let p = s.page in
-    let t = taken_takes m (code "\\") s (with_scan scans.Escape p) scans.Escape (ap (λ (sc : Scan). meet_at sc (code "\\") p) at.scan_is)
+    let t = taken_takes m (code "\\") s (with_scan scans.Escape p) scans.Escape (ap (λ (sc : Scan). offer_at sc (code "\\") p) at.scan_is)
     (asking_as m scans.Escape p _ refl refl refl refl refl refl refl at) in
     record { next = t.next; steps = 1; few = omega arith; takes = t.takes; quoted = false; at = t.at }
 
 pub slash_heard : (scan : Scan) (m : Macro) (s : State) → asks m ≡ true → Asking m s.page scan → is_inside scan ≡ true → Slash m s 4
-unfolding meet is_inside escape_of quoted_rest
+unfolding offer is_inside escape_of quoted_rest
 slash_heard scans.Between m s h at i = slash_within m s 2 4 (omega arith) (between_slash m s at)
 slash_heard scans.Word m s h at i = slash_within m s 1 4 (omega arith) (word_slash m s at)
 slash_heard scans.Quoted m s h at i =
     let p = s.page in
-    let t = taken_takes m (code "\\") s (with_scan scans.QuotedEscape p) scans.QuotedEscape (ap (λ (sc : Scan). meet_at sc (code "\\") p) at.scan_is)
+    let t = taken_takes m (code "\\") s (with_scan scans.QuotedEscape p) scans.QuotedEscape (ap (λ (sc : Scan). offer_at sc (code "\\") p) at.scan_is)
     (asking_as m scans.QuotedEscape p _ refl refl refl refl refl refl refl at) in
     record { next = t.next; steps = 1; few = omega arith; takes = t.takes; quoted = true; at = t.at }
 slash_heard scans.Closing m s h at i =
     let p = s.page in
-    let one = left_leads m (code "\\") s (with_scan (scans.Given true) p) (scans.Given true) (ap (λ (sc : Scan). meet_at sc (code "\\") p) at.scan_is)
+    let one = left_leads m (code "\\") s (with_scan (scans.Given true) p) (scans.Given true) (ap (λ (sc : Scan). offer_at sc (code "\\") p) at.scan_is)
     (given_asking m true scans.Closing p at) in
     let two = given_step m true (code "\\") one.next h one.at in
-    slash_behind m s 3 (scans.Given true) one (slash_behind m one.next 2 scans.Between two (between_slash m two.next two.at))
+    slash_after m s 3 (scans.Given true) one (slash_after m one.next 2 scans.Between two (between_slash m two.next two.at))
 slash_heard (scans.Named reached quoted) m s h at i = slash_within m s 1 4 (omega arith) (named_slash reached quoted m s at)
 slash_heard scan m s h at i = never i
 
-pub escape_met : (quoted : Bool) (b : ℕ) (p : Page) → p.scan ≡ escape_of quoted → (b == code "\"") ≡ false → (b == code "\n") ≡ false → meet b p ≡ keep_begun b quoted p
-unfolding meet escape_of
-escape_met true b p e f g =
-    ap (λ (sc : Scan). meet_at sc b p) e
+pub escape_offered : (quoted : Bool) (b : ℕ) (p : Page) → p.scan ≡ escape_of quoted → (b == code "\"") ≡ false → (b == code "\n") ≡ false → offer b p ≡ keep_begun b quoted p
+unfolding offer escape_of
+escape_offered true b p e f g =
+    ap (λ (sc : Scan). offer_at sc b p) e
     ∙ ap (λ (t : Bool). if t then comment true p else if b == code "\n" then continued true p else keep_begun b true p) f
     ∙ ap (λ (t : Bool). if t then continued true p else keep_begun b true p) g
-escape_met false b p e f g =
-    ap (λ (sc : Scan). meet_at sc b p) e
+escape_offered false b p e f g =
+    ap (λ (sc : Scan). offer_at sc b p) e
     ∙ ap (λ (t : Bool). if t then comment false p else if b == code "\n" then continued false p else keep_begun b false p) f
     ∙ ap (λ (t : Bool). if t then continued false p else keep_begun b false p) g

@@ -23,11 +23,11 @@ use Rattle.mdoc_converter.specs.LayingOut.{lay_out}
 use Rattle.mdoc_converter.specs.Options.{added_column, asked, block_asked, block_wanted, column, column_width, dated, date_word, font_named, font_or, is_column, is_heading, is_shown, is_version, none, option, option_for, option_word, reads_for, title_word, wants_column}
 use Rattle.mdoc_converter.specs.Reading.{State, said}
 use Rattle.mdoc_converter.specs.Saying.{part_of, parts_seen, words_of}
-use Rattle.mdoc_converter.specs.Scanning.{meet, meet_at, meet_whole, meet_whole_at}
-use Rattle.mdoc_converter.specs.Seeing.{Met, met, left, taken, three, two, and_taken}
+use Rattle.mdoc_converter.specs.Scanning.{offer, offer_at, offer_whole, offer_whole_at}
+use Rattle.mdoc_converter.specs.Seeing.{Offered, offered, left, taken, three, two, and_taken}
 use Rattle.mdoc_converter.specs.Words.{ends_long, heading_calls, parsed}
 use Rattle.mdoc_converter.specs.WrittenLines.{asks}
-use Rattle.mdoc_converter.proofs.Meeting.{with_page, Leads, Takes, leads_by, takes_by}
+use Rattle.mdoc_converter.proofs.Offering.{with_page, Leads, Takes, leads_by, takes_by}
 use Rattle.mdoc_converter.proofs.Outcomes.{is_quiet, never, Lays, quiet-page}
 use Rattle.mdoc_converter.proofs.WholeWords.{and_false}
 use Rattle.mdoc_converter.proofs.WordRoom.{begun_rest}
@@ -121,7 +121,7 @@ asking_if : (t : Bool) (m : Macro) (p q : Page) (scan : Scan) → Asking m p sca
 asking_if true m p q scan i j = i
 asking_if false m p q scan i j = j
 
--- so many meetings lead there, or take the byte, and say nothing
+-- so many steps lead there, or take the byte, and say nothing
 pub record Leading (m : Macro) (b : ℕ) (s : State) (k : ℕ) (scan : Scan) : Type 0 where
   pub next : State
   pub leads : Leads b s next k []
@@ -132,7 +132,7 @@ pub record Taking (m : Macro) (b : ℕ) (s : State) (k : ℕ) (scan : Scan) : Ty
   pub takes : Takes b s next k []
   pub at : Asking m next.page scan
 
-hush_leads : (m : Macro) (b : ℕ) (s : State) (p : Page) (x y z : Act) (scan : Scan) → meet b s.page ≡ met p (three x y z)
+hush_leads : (m : Macro) (b : ℕ) (s : State) (p : Page) (x y z : Act) (scan : Scan) → offer b s.page ≡ offered p (three x y z)
     → is_hushed x ≡ true → is_hushed y ≡ true → is_hushed z ≡ true → Asking m p scan → Leading m b s 1 scan
 hush_leads m b s p x y z scan e i j k at =
     let l = three_page x y z p i j k in
@@ -142,7 +142,7 @@ hush_leads m b s p x y z scan e i j k at =
       at = asking_laid m scan l.0 p at;
     }
 
-hush_takes : (m : Macro) (b : ℕ) (s : State) (p : Page) (x y z : Act) (scan : Scan) → meet b s.page ≡ met p (and_taken (three x y z))
+hush_takes : (m : Macro) (b : ℕ) (s : State) (p : Page) (x y z : Act) (scan : Scan) → offer b s.page ≡ offered p (and_taken (three x y z))
     → is_hushed x ≡ true → is_hushed y ≡ true → is_hushed z ≡ true → Asking m p scan → Taking m b s 1 scan
 hush_takes m b s p x y z scan e i j k at =
     let l = three_page x y z p i j k in
@@ -152,21 +152,21 @@ hush_takes m b s p x y z scan e i j k at =
       at = asking_laid m scan l.0 p at;
     }
 
-pub left_leads : (m : Macro) (b : ℕ) (s : State) (p : Page) (scan : Scan) → meet b s.page ≡ met p (left acts.Nothing) → Asking m p scan → Leading m b s 1 scan
+pub left_leads : (m : Macro) (b : ℕ) (s : State) (p : Page) (scan : Scan) → offer b s.page ≡ offered p (left acts.Nothing) → Asking m p scan → Leading m b s 1 scan
 unfolding is_hushed
 left_leads m b s p scan e at = hush_leads m b s p acts.Nothing acts.Nothing acts.Nothing scan e refl refl refl at
 
-pub taken_takes : (m : Macro) (b : ℕ) (s : State) (p : Page) (scan : Scan) → meet b s.page ≡ met p (taken acts.Nothing) → Asking m p scan → Taking m b s 1 scan
+pub taken_takes : (m : Macro) (b : ℕ) (s : State) (p : Page) (scan : Scan) → offer b s.page ≡ offered p (taken acts.Nothing) → Asking m p scan → Taking m b s 1 scan
 unfolding is_hushed
 taken_takes m b s p scan e at = hush_takes m b s p acts.Nothing acts.Nothing acts.Nothing scan e refl refl refl at
 
-pub cell_takes : (m : Macro) (b : ℕ) (s : State) (p : Page) (scan : Scan) → meet b s.page ≡ met p (taken acts.Cell) → Asking m p scan → Taking m b s 1 scan
+pub cell_takes : (m : Macro) (b : ℕ) (s : State) (p : Page) (scan : Scan) → offer b s.page ≡ offered p (taken acts.Cell) → Asking m p scan → Taking m b s 1 scan
 unfolding is_hushed
 cell_takes m b s p scan e at = hush_takes m b s p acts.Cell acts.Nothing acts.Nothing scan e refl refl refl at
 
 -- ---- what a word asks
 
-record Asked (m : Macro) (l : Met) : Type 0 where
+record Asked (m : Macro) (l : Offered) : Type 0 where
   x : Act
   y : Act
   z : Act
@@ -176,7 +176,7 @@ record Asked (m : Macro) (l : Met) : Type 0 where
   hushed_z : is_hushed z ≡ true
   at : Asking m l.page scans.Between
 
-asked_if : (t : Bool) (m : Macro) (k l : Met) → Asked m k → Asked m l → Asked m (if t then k else l)
+asked_if : (t : Bool) (m : Macro) (k l : Offered) → Asked m k → Asked m l → Asked m (if t then k else l)
 asked_if true m k l i j = i
 asked_if false m k l i j = j
 
@@ -184,7 +184,7 @@ asked_none : (m : Macro) (p : Page) → Asking m p scans.Between → Asked m (no
 unfolding is_hushed
 asked_none m p at = record { x = acts.Nothing; y = acts.Nothing; z = acts.Nothing; seen = refl; hushed_x = refl; hushed_y = refl; hushed_z = refl; at = at }
 
-asked_act : (m : Macro) (p : Page) (x y : Act) → is_hushed x ≡ true → is_hushed y ≡ true → Asking m p scans.Between → Asked m (met p (two x y))
+asked_act : (m : Macro) (p : Page) (x y : Act) → is_hushed x ≡ true → is_hushed y ≡ true → Asking m p scans.Between → Asked m (offered p (two x y))
 unfolding is_hushed
 asked_act m p x y i j at = record { x = x; y = y; z = acts.Nothing; seen = refl; hushed_x = i; hushed_y = j; hushed_z = refl; at = at }
 
@@ -255,19 +255,19 @@ asks_alone macros.FontBegins calls h = refl
 asks_alone macros.Spacing calls h = refl
 asks_alone m calls h = never h
 
-optioned : Met → Met
-optioned o = met (record o.page { call = record o.page.call { some = true } }) o.seen
+optioned : Offered → Offered
+optioned o = offered (record o.page { call = record o.page.call { some = true } }) o.seen
 
 option_is : (p : Page) → option p ≡ optioned (option_for p.call.taker (with_scan scans.Between p))
 unfolding option_word optioned
 option_is p = refl
 
-given_met : (m : Macro) (quoted : Bool) (b : ℕ) (s : State) → asks m ≡ true → Asking m s.page (scans.Given quoted)
-    → meet b s.page ≡ optioned (option_for m (with_scan scans.Between s.page))
-unfolding meet meet_whole
-given_met m quoted b s h at =
+given_offered : (m : Macro) (quoted : Bool) (b : ℕ) (s : State) → asks m ≡ true → Asking m s.page (scans.Given quoted)
+    → offer b s.page ≡ optioned (option_for m (with_scan scans.Between s.page))
+unfolding offer offer_whole
+given_offered m quoted b s h at =
     let p = s.page in
-    ap (λ (sc : Scan). meet_at sc b p) at.scan_is ∙ ap (λ (sc : Scan). meet_whole_at sc b p) at.scan_is
+    ap (λ (sc : Scan). offer_at sc b p) at.scan_is ∙ ap (λ (sc : Scan). offer_whole_at sc b p) at.scan_is
     ∙ ap (λ (t : Bool). if t then ends_long p else if reads_for p.call.taker && not (heading_calls quoted p) then option p else parsed quoted p) at.going
     ∙ ap (λ (k : Macro). if reads_for k && not (is_heading k && is_some (called_by quoted p.word)) then option p else parsed quoted p) at.taker
     ∙ ap (λ (t : Bool). if t then option p else parsed quoted p) (asks_alone m (is_some (called_by quoted p.word)) h)
@@ -280,7 +280,7 @@ given_step m quoted b s h at =
     let o = asked_by m q m h (asking_as m scans.Between s.page q refl refl refl refl refl refl refl at) in
     let l = option_for m q in
     let p = record l.page { call = record l.page.call { some = true } } in
-    hush_leads m b s p o.x o.y o.z scans.Between (given_met m quoted b s h at ∙ ap (met p) o.seen) o.hushed_x o.hushed_y o.hushed_z
+    hush_leads m b s p o.x o.y o.z scans.Between (given_offered m quoted b s h at ∙ ap (offered p) o.seen) o.hushed_x o.hushed_y o.hushed_z
     (asking_as m scans.Between l.page p o.at.scan_is refl refl refl refl refl refl o.at)
 
 -- ---- its bytes
@@ -320,16 +320,16 @@ unfolding widened
 asking_wide true m scan p at = asking_as m scan p _ at.scan_is refl refl refl refl refl refl at
 asking_wide false m scan p at = at
 
-wide_takes : (t : Bool) (m : Macro) (b : ℕ) (s : State) (p : Page) (scan : Scan) → meet b s.page ≡ met (widened t p) (taken acts.Nothing) → Asking m p scan
+wide_takes : (t : Bool) (m : Macro) (b : ℕ) (s : State) (p : Page) (scan : Scan) → offer b s.page ≡ offered (widened t p) (taken acts.Nothing) → Asking m p scan
     → Taking m b s 1 scan
 wide_takes t m b s p scan e at = taken_takes m b s (widened t p) scan e (asking_wide t m scan p at)
 
-title_takes : (m : Macro) (b : ℕ) (s : State) (p : Page) (scan : Scan) → meet b s.page ≡ met p (taken acts.TitlePrefix) → Asking m p scan → Taking m b s 1 scan
+title_takes : (m : Macro) (b : ℕ) (s : State) (p : Page) (scan : Scan) → offer b s.page ≡ offered p (taken acts.TitlePrefix) → Asking m p scan → Taking m b s 1 scan
 unfolding is_hushed
 title_takes m b s p scan e at = hush_takes m b s p acts.TitlePrefix acts.Nothing acts.Nothing scan e refl refl refl at
 
 unshown_by : (t : Bool) (m : Macro) (b c : ℕ) (s : State) (p : Page) (scan : Scan)
-    → meet b s.page ≡ (if t then met (widens (keeping (c ∷ []) (after_prefix p))) (taken acts.TitlePrefix) else met (widens p) (taken acts.Nothing))
+    → offer b s.page ≡ (if t then offered (widens (keeping (c ∷ []) (after_prefix p))) (taken acts.TitlePrefix) else offered (widens p) (taken acts.Nothing))
     → Asking m p scan → Taking m b s 1 scan
 unfolding widened
 unshown_by true m b c s p scan e at =
@@ -339,27 +339,27 @@ unshown_by true m b c s p scan e at =
     (asking_wide wide m scan q (asking_as m scan p q at.scan_is refl refl refl refl refl refl at))
 unshown_by false m b c s p scan e at = wide_takes (nat_lt p.call.width 9999) m b s p scan e at
 
-kept_by : (t : Bool) (m : Macro) (b c : ℕ) (quoted : Bool) (s : State) (p : Page) (scan : Scan) → asks m ≡ true → meet b s.page ≡ keep c quoted p
+kept_by : (t : Bool) (m : Macro) (b c : ℕ) (quoted : Bool) (s : State) (p : Page) (scan : Scan) → asks m ≡ true → offer b s.page ≡ keep c quoted p
     → Asking m p scan → nat_lt (length p.word) 30 ≡ t → Taking m b s 1 scan
 unfolding widened keep_unshown
 kept_by true m b c quoted s p scan h e at room =
     let q = keeping (c ∷ []) p in
     wide_takes (nat_lt p.call.width 9999) m b s q scan
-    (e ∙ ap (λ (t : Bool). if t then met (widens q) (taken acts.Nothing) else if is_shown p then met (with_scan (scans.Long (within quoted)) p) (left acts.Nothing) else keep_unshown c p) room)
+    (e ∙ ap (λ (t : Bool). if t then offered (widens q) (taken acts.Nothing) else if is_shown p then offered (with_scan (scans.Long (within quoted)) p) (left acts.Nothing) else keep_unshown c p) room)
     (asking_as m scan p q at.scan_is refl refl refl refl refl refl at)
 kept_by false m b c quoted s p scan h e at room =
     let q = keeping (c ∷ []) p in
     unshown_by (is_titling p) m b c s p scan
-    (e ∙ ap (λ (t : Bool). if t then met (widens q) (taken acts.Nothing) else if is_shown p then met (with_scan (scans.Long (within quoted)) p) (left acts.Nothing) else keep_unshown c p) room
-    ∙ ap (λ (k : Macro). if not (reads_for k) || is_heading k then met (with_scan (scans.Long (within quoted)) p) (left acts.Nothing) else keep_unshown c p) at.taker
-    ∙ ap (λ (t : Bool). if t then met (with_scan (scans.Long (within quoted)) p) (left acts.Nothing) else keep_unshown c p) (asks_shown m h))
+    (e ∙ ap (λ (t : Bool). if t then offered (widens q) (taken acts.Nothing) else if is_shown p then offered (with_scan (scans.Long (within quoted)) p) (left acts.Nothing) else keep_unshown c p) room
+    ∙ ap (λ (k : Macro). if not (reads_for k) || is_heading k then offered (with_scan (scans.Long (within quoted)) p) (left acts.Nothing) else keep_unshown c p) at.taker
+    ∙ ap (λ (t : Bool). if t then offered (with_scan (scans.Long (within quoted)) p) (left acts.Nothing) else keep_unshown c p) (asks_shown m h))
     at
 
-pub kept : (m : Macro) (b c : ℕ) (quoted : Bool) (s : State) (p : Page) (scan : Scan) → asks m ≡ true → meet b s.page ≡ keep c quoted p
+pub kept : (m : Macro) (b c : ℕ) (quoted : Bool) (s : State) (p : Page) (scan : Scan) → asks m ≡ true → offer b s.page ≡ keep c quoted p
     → Asking m p scan → Taking m b s 1 scan
 kept m b c quoted s p scan h e at = kept_by (nat_lt (length p.word) 30) m b c quoted s p scan h e at refl
 
-pub kept_byte : (m : Macro) (b : ℕ) (quoted : Bool) (s : State) (p : Page) (scan : Scan) → asks m ≡ true → meet b s.page ≡ keep_byte b quoted p
+pub kept_byte : (m : Macro) (b : ℕ) (quoted : Bool) (s : State) (p : Page) (scan : Scan) → asks m ≡ true → offer b s.page ≡ keep_byte b quoted p
     → Asking m p scan → Taking m b s 1 scan
 kept_byte m b quoted s p scan h e at =
     kept m b b quoted s p scan h
@@ -378,7 +378,7 @@ wide_asking : (t : Bool) (m : Macro) (here : Scan) (p : Page) → {from : Scan} 
 wide_asking true m here p {from} at = asking_as m here p _ refl refl refl refl refl refl refl at
 wide_asking false m here p {from} at = asking_as m here p _ refl refl refl refl refl refl refl at
 
-escape_wide : (t : Bool) (m : Macro) (b : ℕ) (here : Scan) (s : State) (p : Page) → meet b s.page ≡ met (with_scan here (if t then widens p else p)) (taken acts.Nothing)
+escape_wide : (t : Bool) (m : Macro) (b : ℕ) (here : Scan) (s : State) (p : Page) → offer b s.page ≡ offered (with_scan here (if t then widens p else p)) (taken acts.Nothing)
     → {from : Scan} → Asking m p from → Taking m b s 1 here
 escape_wide false m b here s p e {from} at =
     taken_takes m b s (with_scan here p) here e (asking_as m here p _ refl refl refl refl refl refl refl at)
@@ -386,24 +386,24 @@ escape_wide true m b here s p e {from} at =
     taken_takes m b s (with_scan here (widens p)) here e
     (wide_asking (nat_lt p.call.width 9999) m here p at)
 
-escape_by : (t : Bool) (m : Macro) (b : ℕ) (quoted : Bool) (s : State) (scan : Scan) → asks m ≡ true → meet b s.page ≡ keep_begun b quoted s.page
+escape_by : (t : Bool) (m : Macro) (b : ℕ) (quoted : Bool) (s : State) (scan : Scan) → asks m ≡ true → offer b s.page ≡ keep_begun b quoted s.page
     → Asking m s.page scan → nat_lt (length s.page.word) 30 ≡ t → Taking m b s 1 (in_named (escape_then escapes.Begun b) quoted)
 unfolding inside_of begun_rest
 escape_by true m b quoted s scan h e at room =
     let p = s.page in
     let q = keeping (b ∷ []) (keeping (code "\\" ∷ []) p) in
     escape_wide (not (b == code "&")) m b (in_named (escape_then escapes.Begun b) quoted) s q
-    (e ∙ ap (λ (t : Bool). begun_rest b quoted (if t then met (with_scan (inside_of quoted) (wider b q)) (taken acts.Nothing) else if is_shown p then met (with_scan (scans.Long (within_escape quoted)) p) (left acts.Nothing) else met (with_scan (inside_of quoted) (wider b p)) (taken acts.Nothing))) room)
+    (e ∙ ap (λ (t : Bool). begun_rest b quoted (if t then offered (with_scan (inside_of quoted) (wider b q)) (taken acts.Nothing) else if is_shown p then offered (with_scan (scans.Long (within_escape quoted)) p) (left acts.Nothing) else offered (with_scan (inside_of quoted) (wider b p)) (taken acts.Nothing))) room)
     (asking_as m scan p q at.scan_is refl refl refl refl refl refl at)
 escape_by false m b quoted s scan h e at room =
     let p = s.page in
     let q = keeping (b ∷ []) (keeping (code "\\" ∷ []) p) in
     escape_wide (not (b == code "&")) m b (in_named (escape_then escapes.Begun b) quoted) s p
-    (e ∙ ap (λ (t : Bool). begun_rest b quoted (if t then met (with_scan (inside_of quoted) (wider b q)) (taken acts.Nothing) else if is_shown p then met (with_scan (scans.Long (within_escape quoted)) p) (left acts.Nothing) else met (with_scan (inside_of quoted) (wider b p)) (taken acts.Nothing))) room
-    ∙ ap (λ (k : Macro). begun_rest b quoted (if not (reads_for k) || is_heading k then met (with_scan (scans.Long (within_escape quoted)) p) (left acts.Nothing) else met (with_scan (inside_of quoted) (wider b p)) (taken acts.Nothing))) at.taker
-    ∙ ap (λ (t : Bool). begun_rest b quoted (if t then met (with_scan (scans.Long (within_escape quoted)) p) (left acts.Nothing) else met (with_scan (inside_of quoted) (wider b p)) (taken acts.Nothing))) (asks_shown m h))
+    (e ∙ ap (λ (t : Bool). begun_rest b quoted (if t then offered (with_scan (inside_of quoted) (wider b q)) (taken acts.Nothing) else if is_shown p then offered (with_scan (scans.Long (within_escape quoted)) p) (left acts.Nothing) else offered (with_scan (inside_of quoted) (wider b p)) (taken acts.Nothing))) room
+    ∙ ap (λ (k : Macro). begun_rest b quoted (if not (reads_for k) || is_heading k then offered (with_scan (scans.Long (within_escape quoted)) p) (left acts.Nothing) else offered (with_scan (inside_of quoted) (wider b p)) (taken acts.Nothing))) at.taker
+    ∙ ap (λ (t : Bool). begun_rest b quoted (if t then offered (with_scan (scans.Long (within_escape quoted)) p) (left acts.Nothing) else offered (with_scan (inside_of quoted) (wider b p)) (taken acts.Nothing))) (asks_shown m h))
     at
 
-pub kept_begun : (m : Macro) (b : ℕ) (quoted : Bool) (s : State) (scan : Scan) → asks m ≡ true → meet b s.page ≡ keep_begun b quoted s.page
+pub kept_begun : (m : Macro) (b : ℕ) (quoted : Bool) (s : State) (scan : Scan) → asks m ≡ true → offer b s.page ≡ keep_begun b quoted s.page
     → Asking m s.page scan → Taking m b s 1 (in_named (escape_then escapes.Begun b) quoted)
 kept_begun m b quoted s scan h e at = escape_by (nat_lt (length s.page.word) 30) m b quoted s scan h e at refl

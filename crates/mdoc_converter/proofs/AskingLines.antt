@@ -19,7 +19,7 @@ use Rattle.mdoc_converter.specs.declared.page.Page.{Page}
 use Rattle.mdoc_converter.specs.declared.page.Scan.{Scan}
 use Rattle.mdoc_converter.specs.declared.page.Scan.TheVariants as scans
 use Rattle.mdoc_converter.specs.Blocks.{block_opens, display_begins_of, fresh_block, indent, inner, literal, space, stops, with_literal}
-use Rattle.mdoc_converter.specs.Calls.{is_due, is_due_from, is_none, leaves, with_scan}
+use Rattle.mdoc_converter.specs.Calls.{is_pending, is_pending_from, is_none, leaves, with_scan}
 use Rattle.mdoc_converter.specs.Columns.{gap}
 use Rattle.mdoc_converter.specs.Escaping.{escape_then}
 use Rattle.mdoc_converter.specs.Keeping.{ends_word, in_named}
@@ -29,18 +29,18 @@ use Rattle.mdoc_converter.specs.Macros.{macro_of}
 use Rattle.mdoc_converter.specs.Options.{is_column, none}
 use Rattle.mdoc_converter.specs.Reading.{State, refused, said, stacked}
 use Rattle.mdoc_converter.specs.Saying.{part_of, parts_of, words_of}
-use Rattle.mdoc_converter.specs.Scanning.{meet, meet_at, meet_whole, meet_whole_at}
-use Rattle.mdoc_converter.specs.Seeing.{Met, met, left, three, two, and_taken}
+use Rattle.mdoc_converter.specs.Scanning.{offer, offer_at, offer_whole, offer_whole_at}
+use Rattle.mdoc_converter.specs.Seeing.{Offered, offered, left, three, two, and_taken}
 use Rattle.mdoc_converter.specs.WordLaws.{reads_at}
 use Rattle.mdoc_converter.specs.WrittenLines.{begins_star, each, asks, opens_block, is_plain, Letter, Plain, Escape, bytes_of, is_asking, are_asking, begins_blank, asking_line, written, names_no_string}
 use Rattle.mdoc_converter.proofs.After.{after, after-append, next-state, Fresh}
-use Rattle.mdoc_converter.proofs.AskedBytes.{between_heard, between_met, byte_heard, escape_met, escape_of, given_asking, heard_after, inside_named, is_inside, quoted_rest, slash_heard, word_met}
+use Rattle.mdoc_converter.proofs.AskedBytes.{between_heard, between_offered, byte_heard, escape_offered, escape_of, given_asking, heard_after, inside_named, is_inside, quoted_rest, slash_heard, word_offered}
 use Rattle.mdoc_converter.proofs.AskedWords.{Asking, asking_as, Leading, left_leads, given_step, kept_begun, is_hushed, three_page, three_words}
 use Rattle.mdoc_converter.proofs.Endings.{is_laid, last_laid, last_word, three_laid}
 use Rattle.mdoc_converter.proofs.Escapes.{and_left, and_right, both, is_not}
 use Rattle.mdoc_converter.proofs.ReadWords.{between_by}
-use Rattle.mdoc_converter.proofs.MacroLines.{beginning, control_taken, macro_met, name_begun, name_more, name_more_state, no_slash, no_star, plain_names, reads_name, short_name}
-use Rattle.mdoc_converter.proofs.Meeting.{with_page, Takes, then_takes, leads_with, takes_by}
+use Rattle.mdoc_converter.proofs.MacroLines.{beginning, control_taken, macro_offered, name_begun, name_more, name_more_state, no_slash, no_star, plain_names, reads_name, short_name}
+use Rattle.mdoc_converter.proofs.Offering.{with_page, Takes, then_takes, leads_with, takes_by}
 use Rattle.mdoc_converter.proofs.OtherLines.{Said}
 use Rattle.mdoc_converter.proofs.Outcomes.{is_quiet, never}
 use Rattle.mdoc_converter.proofs.TextSaid.{next-words}
@@ -48,47 +48,47 @@ use Rattle.mdoc_converter.proofs.WordRoom.{no_comment, no_newline, one_enough}
 
 -- ---- the line ends
 
-asks_no_due : (m : Macro) (some named : Bool) → asks m ≡ true → is_due_from m some named ≡ false
-asks_no_due macros.Date some named h = refl
-asks_no_due macros.Title some named h = refl
-asks_no_due macros.List some named h = refl
-asks_no_due macros.Display some named h = refl
-asks_no_due macros.FontBegins some named h = refl
-asks_no_due macros.Spacing some named h = refl
-asks_no_due m some named h = never h
+asks_no_pending : (m : Macro) (some named : Bool) → asks m ≡ true → is_pending_from m some named ≡ false
+asks_no_pending macros.Date some named h = refl
+asks_no_pending macros.Title some named h = refl
+asks_no_pending macros.List some named h = refl
+asks_no_pending macros.Display some named h = refl
+asks_no_pending macros.FontBegins some named h = refl
+asks_no_pending macros.Spacing some named h = refl
+asks_no_pending m some named h = never h
 
-ends_by : Bool → List ℕ → List ℕ → Page → Met
-ends_by due closers marks p =
-    if due then leaves p else if not (is_none closers) then closes_last p else if not (is_none marks) then met p (left acts.Marks) else line_ends p
+ends_by : Bool → List ℕ → List ℕ → Page → Offered
+ends_by pending closers marks p =
+    if pending then leaves p else if not (is_none closers) then closes_last p else if not (is_none marks) then offered p (left acts.Marks) else line_ends p
 
-ends_is : (p : Page) → ends p ≡ ends_by (is_due p) p.closers p.marks p
+ends_is : (p : Page) → ends p ≡ ends_by (is_pending p) p.closers p.marks p
 unfolding ends_by
 ends_is p = refl
 
-line_over : Met → Met
-line_over l = met (with_scan scans.Start l.page) (ended_seen l.page (and_taken l.seen))
+line_over : Offered → Offered
+line_over l = offered (with_scan scans.Start l.page) (ended_seen l.page (and_taken l.seen))
 
 line_ends_is : (p : Page) → line_ends p ≡ line_over (end_of p.call.line p)
 unfolding line_ends line_over
 line_ends_is p = refl
 
-ends_met : (m : Macro) (b : ℕ) (s : State) → asks m ≡ true → Asking m s.page scans.Ends → meet b s.page ≡ line_over (end_of m s.page)
-unfolding meet meet_whole ends_by
-ends_met m b s h at =
+ends_offered : (m : Macro) (b : ℕ) (s : State) → asks m ≡ true → Asking m s.page scans.Ends → offer b s.page ≡ line_over (end_of m s.page)
+unfolding offer offer_whole ends_by
+ends_offered m b s h at =
     let p = s.page in
-    ap (λ (sc : Scan). meet_at sc b p) at.scan_is ∙ ap (λ (sc : Scan). meet_whole_at sc b p) at.scan_is ∙ ends_is p
-    ∙ ap (λ (k : Macro). ends_by (is_due_from k p.call.some (not (is_none p.name))) p.closers p.marks p) at.taker
-    ∙ ap (λ (t : Bool). ends_by t p.closers p.marks p) (asks_no_due m p.call.some (not (is_none p.name)) h)
+    ap (λ (sc : Scan). offer_at sc b p) at.scan_is ∙ ap (λ (sc : Scan). offer_whole_at sc b p) at.scan_is ∙ ends_is p
+    ∙ ap (λ (k : Macro). ends_by (is_pending_from k p.call.some (not (is_none p.name))) p.closers p.marks p) at.taker
+    ∙ ap (λ (t : Bool). ends_by t p.closers p.marks p) (asks_no_pending m p.call.some (not (is_none p.name)) h)
     ∙ ap (λ (cs : List ℕ). ends_by false cs p.marks p) at.closers ∙ ap (λ (ms : List ℕ). ends_by false [] ms p) at.marks
     ∙ line_ends_is p ∙ ap (λ (k : Macro). line_over (end_of k p)) at.line
 
 -- at its end the line says nothing, and another begins
-record Over (l : Met) : Type 0 where
+record Over (l : Offered) : Type 0 where
   page : Page
   x : Act
   y : Act
   z : Act
-  is : line_over l ≡ met (with_scan scans.Start page) (and_taken (three x y z))
+  is : line_over l ≡ offered (with_scan scans.Start page) (and_taken (three x y z))
   marks : page.marks ≡ []
   laid_x : is_laid x ≡ true
   laid_y : is_laid y ≡ true
@@ -99,7 +99,7 @@ record Over (l : Met) : Type 0 where
 
 -- a line that says up to two things at its end, and then ends
 over_two : (p : Page) (x y : Act) → p.marks ≡ [] → is_laid x ≡ true → is_laid y ≡ true → ((q : Page) → (part_of x q).word ≡ []) → ((q : Page) → (part_of y q).word ≡ [])
-    → Over (met p (two x y))
+    → Over (offered p (two x y))
 unfolding line_over
 over_two p x y none i j e f = record {
   page = p;
@@ -126,7 +126,7 @@ space_word true q = refl
 space_word false q = refl
 
 columns_over : (t : Bool) (p : Page) → p.marks ≡ []
-    → Over (met p (three (space p.block.compact) (indent p) (if t then acts.Nothing else acts.Stops (gap p.block.columns))))
+    → Over (offered p (three (space p.block.compact) (indent p) (if t then acts.Nothing else acts.Stops (gap p.block.columns))))
 unfolding line_over is_laid is_quiet
 columns_over true p none =
     over_two p (space p.block.compact) (indent p) none (space_laid p.block.compact) refl (space_word p.block.compact)
@@ -147,7 +147,7 @@ columns_over false p none = record {
 }
 
 list_over : (t : Bool) (p : Page) → p.marks ≡ []
-    → Over (met p (if t then three (space p.block.compact) (indent p) (stops p) else left (indent p)))
+    → Over (offered p (if t then three (space p.block.compact) (indent p) (stops p) else left (indent p)))
 unfolding is_laid is_quiet
 list_over true p none = columns_over (p.block.columns == 0) p none
 list_over false p none = over_two p (indent p) acts.Nothing none refl refl (λ q. refl) (λ q. refl)
@@ -197,7 +197,7 @@ end_over m p h none = never h
 
 -- ---- a newline
 
--- the line is over in a few meetings
+-- the line is over in a few steps
 record Ended (b : ℕ) (s : State) (k : ℕ) : Type 0 where
   next : State
   steps : ℕ
@@ -205,8 +205,8 @@ record Ended (b : ℕ) (s : State) (k : ℕ) : Type 0 where
   takes : Takes b s next steps []
   fresh : Fresh next
 
-ended_behind : (m : Macro) (b : ℕ) (s : State) (k : ℕ) (scan : Scan) (one : Leading m b s 1 scan) → Ended b one.next k → Ended b s (1 + k)
-ended_behind m b s k scan one h = record {
+ended_after : (m : Macro) (b : ℕ) (s : State) (k : ℕ) (scan : Scan) (one : Leading m b s 1 scan) → Ended b one.next k → Ended b s (1 + k)
+ended_after m b s k scan one h = record {
   next = h.next;
   steps = 1 + h.steps;
   few = (let few = h.few in omega arith);
@@ -230,7 +230,7 @@ over_ended m b s h at =
       steps = 1;
       few = omega arith;
       takes =
-          takes_by b s q (said (three o.x o.y o.z) q).page o.x o.y o.z [] (ends_met m b s h at ∙ o.is) refl
+          takes_by b s q (said (three o.x o.y o.z) q).page o.x o.y o.z [] (ends_offered m b s h at ∙ o.is) refl
           (nothing_said (part_of o.x q).word (part_of o.y _).word (part_of o.z _).word (o.no_x q) (o.no_y _) (o.no_z _));
       fresh = record { scan_is = ap (λ (r : Page). r.scan) l.1; marks_are = ap (λ (r : Page). r.marks) l.1 ∙ o.marks };
     }
@@ -239,51 +239,51 @@ between_ended : (m : Macro) (s : State) → asks m ≡ true → Asking m s.page 
 unfolding between_by
 between_ended m s h at =
     let p = s.page in
-    let one = left_leads m (code "\n") s (with_scan scans.Ends p) scans.Ends (between_met m (code "\n") p at)
+    let one = left_leads m (code "\n") s (with_scan scans.Ends p) scans.Ends (between_offered m (code "\n") p at)
     (asking_as m scans.Ends p _ refl refl refl refl refl refl refl at) in
-    ended_behind m (code "\n") s 1 scans.Ends one (over_ended m (code "\n") one.next h one.at)
+    ended_after m (code "\n") s 1 scans.Ends one (over_ended m (code "\n") one.next h one.at)
 
 given_ended : (quoted : Bool) (m : Macro) (s : State) → asks m ≡ true → Asking m s.page (scans.Given quoted) → Ended (code "\n") s 3
 given_ended quoted m s h at =
     let one = given_step m quoted (code "\n") s h at in
-    ended_behind m (code "\n") s 2 scans.Between one (between_ended m one.next h one.at)
+    ended_after m (code "\n") s 2 scans.Between one (between_ended m one.next h one.at)
 
 named_newline : (reached : Reached) (quoted : Bool) (m : Macro) (s : State) → Asking m s.page (scans.Named reached quoted)
     → Leading m (code "\n") s 1 (scans.Given quoted)
-unfolding meet
+unfolding offer
 named_newline reached true m s at =
     let p = s.page in
-    left_leads m (code "\n") s (with_scan (scans.Given true) p) (scans.Given true) (ap (λ (sc : Scan). meet_at sc (code "\n") p) at.scan_is)
+    left_leads m (code "\n") s (with_scan (scans.Given true) p) (scans.Given true) (ap (λ (sc : Scan). offer_at sc (code "\n") p) at.scan_is)
     (given_asking m true (scans.Named reached true) p at)
 named_newline reached false m s at =
     let p = s.page in
-    left_leads m (code "\n") s (with_scan (scans.Given false) p) (scans.Given false) (ap (λ (sc : Scan). meet_at sc (code "\n") p) at.scan_is)
+    left_leads m (code "\n") s (with_scan (scans.Given false) p) (scans.Given false) (ap (λ (sc : Scan). offer_at sc (code "\n") p) at.scan_is)
     (given_asking m false (scans.Named reached false) p at)
 
 newline_ended : (scan : Scan) (m : Macro) (s : State) → asks m ≡ true → Asking m s.page scan → is_inside scan ≡ true → Ended (code "\n") s 4
-unfolding meet is_inside quoted_rest
+unfolding offer is_inside quoted_rest
 newline_ended scans.Between m s h at i = ended_within (code "\n") s 2 4 (omega arith) (between_ended m s h at)
 newline_ended scans.Word m s h at i =
     let p = s.page in
-    let one = left_leads m (code "\n") s (with_scan (scans.Given false) p) (scans.Given false) (word_met (code "\n") p true at.scan_is refl refl)
+    let one = left_leads m (code "\n") s (with_scan (scans.Given false) p) (scans.Given false) (word_offered (code "\n") p true at.scan_is refl refl)
     (given_asking m false scans.Word p at) in
-    ended_behind m (code "\n") s 3 (scans.Given false) one (given_ended false m one.next h one.at)
+    ended_after m (code "\n") s 3 (scans.Given false) one (given_ended false m one.next h one.at)
 newline_ended scans.Quoted m s h at i =
     let p = s.page in
-    let one = left_leads m (code "\n") s (with_scan (scans.Given true) p) (scans.Given true) (ap (λ (sc : Scan). meet_at sc (code "\n") p) at.scan_is)
+    let one = left_leads m (code "\n") s (with_scan (scans.Given true) p) (scans.Given true) (ap (λ (sc : Scan). offer_at sc (code "\n") p) at.scan_is)
     (given_asking m true scans.Quoted p at) in
-    ended_behind m (code "\n") s 3 (scans.Given true) one (given_ended true m one.next h one.at)
+    ended_after m (code "\n") s 3 (scans.Given true) one (given_ended true m one.next h one.at)
 newline_ended scans.Closing m s h at i =
     let p = s.page in
-    let one = left_leads m (code "\n") s (with_scan (scans.Given true) p) (scans.Given true) (ap (λ (sc : Scan). meet_at sc (code "\n") p) at.scan_is)
+    let one = left_leads m (code "\n") s (with_scan (scans.Given true) p) (scans.Given true) (ap (λ (sc : Scan). offer_at sc (code "\n") p) at.scan_is)
     (given_asking m true scans.Closing p at) in
-    ended_behind m (code "\n") s 3 (scans.Given true) one (given_ended true m one.next h one.at)
+    ended_after m (code "\n") s 3 (scans.Given true) one (given_ended true m one.next h one.at)
 newline_ended (scans.Named reached quoted) m s h at i =
     let one = named_newline reached quoted m s at in
-    ended_behind m (code "\n") s 3 (scans.Given quoted) one (given_ended quoted m one.next h one.at)
+    ended_after m (code "\n") s 3 (scans.Given quoted) one (given_ended quoted m one.next h one.at)
 newline_ended scan m s h at i = never i
 
--- ---- what stands behind the name
+-- ---- what stands after the name
 
 record Read (m : Macro) (s : State) (bs : List ℕ) : Type 0 where
   next : State
@@ -312,7 +312,7 @@ letter_read (Plain b) m s scan h at i good =
 letter_read (Escape b) m s scan h at i good =
     let slash = slash_heard scan m s h at i in
     let one = kept_begun m b slash.quoted slash.next (escape_of slash.quoted) h
-    (escape_met slash.quoted b slash.next.page slash.at.scan_is (no_comment b good) (no_newline b good)) slash.at in
+    (escape_offered slash.quoted b slash.next.page slash.at.scan_is (no_comment b good) (no_newline b good)) slash.at in
     record {
       next = one.next;
       said = λ rest.
@@ -355,7 +355,7 @@ opened_asking : (t : Bool) (m : Macro) (outer : Block) (r : State) → t ≡ tru
 opened_asking true m outer r e at = at
 opened_asking false m outer r e at = never e
 
-block_leads : (kind : Kind) (m : Macro) (b : ℕ) (s : State) (q : Page) → meet b s.page ≡ block_opens kind q → nat_lt (length s.blocks) 64 ≡ true
+block_leads : (kind : Kind) (m : Macro) (b : ℕ) (s : State) (q : Page) → offer b s.page ≡ block_opens kind q → nat_lt (length s.blocks) 64 ≡ true
     → Asking m q scans.Between → Leading m b s 1 scans.Between
 unfolding is_hushed
 block_leads kind m b s q e room at =
@@ -373,26 +373,26 @@ begin_step : (m : Macro) (b : ℕ) (name : List ℕ) (s : State) → s.page.mark
     → (not (opens_block m) || nat_lt (length s.blocks) 64) ≡ true → Leading m b (reads_name name s) 1 scans.Between
 unfolding begins reads_name
 begin_step macros.Date b name s none h e f room =
-    left_leads macros.Date b (reads_name name s) (beginning macros.Date name s) scans.Between (macro_met b macros.Date name s e f) (beginning_asking macros.Date name s none)
+    left_leads macros.Date b (reads_name name s) (beginning macros.Date name s) scans.Between (macro_offered b macros.Date name s e f) (beginning_asking macros.Date name s none)
 begin_step macros.Title b name s none h e f room =
     let q = beginning macros.Title name s in
-    left_leads macros.Title b (reads_name name s) (record q { title = []; chapter = [] }) scans.Between (macro_met b macros.Title name s e f)
+    left_leads macros.Title b (reads_name name s) (record q { title = []; chapter = [] }) scans.Between (macro_offered b macros.Title name s e f)
     (let at = beginning_asking macros.Title name s none in asking_as macros.Title scans.Between q _ at.scan_is refl refl refl refl refl refl at)
 begin_step macros.List b name s none h e f room =
-    block_leads kinds.Item macros.List b (reads_name name s) (beginning macros.List name s) (macro_met b macros.List name s e f) room (beginning_asking macros.List name s none)
+    block_leads kinds.Item macros.List b (reads_name name s) (beginning macros.List name s) (macro_offered b macros.List name s e f) room (beginning_asking macros.List name s none)
 begin_step macros.Display b name s none h e f room =
-    block_leads kinds.Filled macros.Display b (reads_name name s) (beginning macros.Display name s) (macro_met b macros.Display name s e f) room (beginning_asking macros.Display name s none)
+    block_leads kinds.Filled macros.Display b (reads_name name s) (beginning macros.Display name s) (macro_offered b macros.Display name s e f) room (beginning_asking macros.Display name s none)
 begin_step macros.FontBegins b name s none h e f room =
-    left_leads macros.FontBegins b (reads_name name s) (beginning macros.FontBegins name s) scans.Between (macro_met b macros.FontBegins name s e f)
+    left_leads macros.FontBegins b (reads_name name s) (beginning macros.FontBegins name s) scans.Between (macro_offered b macros.FontBegins name s e f)
     (beginning_asking macros.FontBegins name s none)
 begin_step macros.Spacing b name s none h e f room =
-    left_leads macros.Spacing b (reads_name name s) (beginning macros.Spacing name s) scans.Between (macro_met b macros.Spacing name s e f)
+    left_leads macros.Spacing b (reads_name name s) (beginning macros.Spacing name s) scans.Between (macro_offered b macros.Spacing name s e f)
     (beginning_asking macros.Spacing name s none)
 begin_step m b name s none h e f room = never h
 
 -- ---- the whole line
 
--- from behind its name
+-- from after its name
 record Rest (s : State) (bs : List ℕ) : Type 0 where
   words : words_of (parts_of s bs) ≡ []
   fresh : Fresh (after s bs)
@@ -416,7 +416,7 @@ rest_said : (ls : List Letter) (m : Macro) (name : List ℕ) (s : State) → s.p
     → Rest (reads_name name s) (written false ls ++ codes "\n")
 rest_said [] m name s none h f room blank good =
     let one = begin_step m (code "\n") name s none h refl f room in
-    newline_rest (reads_name name s) 3 (omega arith) (ended_behind m (code "\n") (reads_name name s) 2 scans.Between one (between_ended m one.next h one.at))
+    newline_rest (reads_name name s) 3 (omega arith) (ended_after m (code "\n") (reads_name name s) 2 scans.Between one (between_ended m one.next h one.at))
 rest_said (Escape b ∷ ls) m name s none h f room blank good = never blank
 rest_said (Plain b ∷ ls) m name s none h f room blank good =
     let start = reads_name name s in
@@ -439,7 +439,7 @@ pub asking_said : (name : List ℕ) (rest : List Letter) (m : Macro) (s : State)
     → Said s (asking_line name rest) []
 asking_said [] rest m s none h f room plain blank good = absurd (let no : None ≡ Some m = f in cc)
 asking_said (b ∷ bs) rest m s none h f room plain blank good =
-    let behind = written false rest ++ codes "\n" in
+    let following = written false rest ++ codes "\n" in
     let short = short_name (b ∷ bs) m f in
     let line = rest_said rest m (b ∷ bs) s none h f room blank good in
     let begins = name_begun b s (and_left (is_plain b) (each is_plain bs) plain) in
@@ -448,14 +448,14 @@ asking_said (b ∷ bs) rest m s none h f room plain blank good =
       words =
           next-words (code ".") ((b ∷ bs ++ written false rest) ++ codes "\n") (reads_at scans.Start s) (reads_at scans.Control s) 1 [] _ one_enough (control_taken s) refl
           ∙ ap (λ (xs : List ℕ). words_of (parts_of (reads_at scans.Control s) xs)) (append_assoc (b ∷ bs) (written false rest) (codes "\n"))
-          ∙ next-words b (bs ++ behind) (reads_at scans.Control s) (reads_name (b ∷ []) s) 1 [] _ one_enough begins refl
-          ∙ name_more bs (b ∷ []) s behind more (omega arith) ∙ line.words;
+          ∙ next-words b (bs ++ following) (reads_at scans.Control s) (reads_name (b ∷ []) s) 1 [] _ one_enough begins refl
+          ∙ name_more bs (b ∷ []) s following more (omega arith) ∙ line.words;
       fresh =
           subst Fresh
           (sym (next-state (code ".") ((b ∷ bs ++ written false rest) ++ codes "\n") (reads_at scans.Start s) (reads_at scans.Control s) 1 [] one_enough (control_taken s)
           ∙ ap (λ (xs : List ℕ). after (reads_at scans.Control s) xs) (append_assoc (b ∷ bs) (written false rest) (codes "\n"))
-          ∙ next-state b (bs ++ behind) (reads_at scans.Control s) (reads_name (b ∷ []) s) 1 [] one_enough begins
-          ∙ name_more_state bs (b ∷ []) s behind more (omega arith)))
+          ∙ next-state b (bs ++ following) (reads_at scans.Control s) (reads_name (b ∷ []) s) 1 [] one_enough begins
+          ∙ name_more_state bs (b ∷ []) s following more (omega arith)))
           line.fresh;
     }
 

@@ -1,8 +1,8 @@
 -- Bytes that pass at once.
 use Rattle.std.proofs.Common.{◌≡◌, ℕ, suc, ◌+◌, ◌≤◌, List, [], ◌∷◌, length, take, Bool, true, false, not, ◌==◌, nat_lt, if◌then◌else◌, None, refl, sym, ◌∙◌, ap, subst, arith}
 use Prim.Native.Char.{code}
-use Rattle.mdoc_converter.specs.declared.page.Front.{Front}
-use Rattle.mdoc_converter.specs.declared.page.Front.TheVariants as fronts
+use Rattle.mdoc_converter.specs.declared.page.Prefix.{Prefix}
+use Rattle.mdoc_converter.specs.declared.page.Prefix.TheVariants as prefixes
 use Rattle.mdoc_converter.specs.declared.page.Scan.{Scan}
 use Rattle.mdoc_converter.specs.declared.page.Scan.TheVariants as scans
 use Rattle.mdoc_converter.specs.declared.pending.Pending.{Pending}
@@ -12,8 +12,8 @@ use Rattle.mdoc_converter.specs.declared.reader.Reader.{Reader}
 use Rattle.mdoc_converter.specs.AtHand.{before_newline, passing, passing_by, passing_in, Passes}
 use Rattle.mdoc_converter.specs.Calls.{with_scan}
 use Rattle.mdoc_converter.specs.LayingOut.{lay_out}
-use Rattle.mdoc_converter.specs.Reading.{State, Told, state, told, behind, then_told, said, once, heard, read, fed}
-use Rattle.mdoc_converter.specs.Scanning.{front_then, is_blank, meet, meet_whole, passes_to}
+use Rattle.mdoc_converter.specs.Reading.{State, Emitted, state, emitted, preceded, then_emitted, said, once, heard, read, fed}
+use Rattle.mdoc_converter.specs.Scanning.{prefix_then, is_blank, offer, offer_whole, passes_to}
 use Rattle.mdoc_converter.specs.WrittenLines.{each, is_text}
 use Rattle.mdoc_converter.proofs.Escapes.{and_left, and_right, both, is_not}
 use Rattle.mdoc_converter.proofs.Unchanged.{at, read-is, read_with, scan_by}
@@ -23,13 +23,13 @@ use Rattle.mdoc_converter.proofs.Unchanged.{at, read-is, read_with, scan_by}
 one-more : (b : ℕ) (bs : List ℕ) → 1 + length bs ≡ length (b ∷ bs)
 one-more b bs = omega arith
 
-fed-passing : (test : ℕ → Bool) (s : State) → ((b : ℕ) → test b ≡ true → read b s ≡ told s (b ∷ []) 1) → (bs : List ℕ)
-    → each test bs ≡ true → fed s bs ≡ told s bs (length bs)
+fed-passing : (test : ℕ → Bool) (s : State) → ((b : ℕ) → test b ≡ true → read b s ≡ emitted s (b ∷ []) 1) → (bs : List ℕ)
+    → each test bs ≡ true → fed s bs ≡ emitted s bs (length bs)
 fed-passing test s step [] h = refl
 fed-passing test s step (b ∷ bs) h =
-    ap (λ (t : Told). then_told t (λ u. fed u bs)) (step b (and_left (test b) (each test bs) h))
-    ∙ ap (behind (b ∷ []) 1) (fed-passing test s step bs (and_right (test b) (each test bs) h))
-    ∙ ap (told s (b ∷ bs)) (one-more b bs)
+    ap (λ (t : Emitted). then_emitted t (λ u. fed u bs)) (step b (and_left (test b) (each test bs) h))
+    ∙ ap (preceded (b ∷ []) 1) (fed-passing test s step bs (and_right (test b) (each test bs) h))
+    ∙ ap (emitted s (b ∷ bs)) (one-more b bs)
 
 any : ℕ → Bool
 any b = true
@@ -45,15 +45,15 @@ at-self scan s e f =
     ap (λ (x : Scan). record s { page = with_scan x s.page; pending = Nothing }) (sym e)
     ∙ ap (λ (x : Pending). record s { pending = x }) (sym f)
 
--- ---- behind the first lines
+-- ---- after the first lines
 
-passes_read : (b : ℕ) (s : State) → read b (at scans.Passes s) ≡ told (at scans.Passes s) (b ∷ []) 1
-unfolding at read heard once said meet meet_whole lay_out
+passes_read : (b : ℕ) (s : State) → read b (at scans.Passes s) ≡ emitted (at scans.Passes s) (b ∷ []) 1
+unfolding at read heard once said offer offer_whole lay_out
 passes_read b s = refl
 
-all-pass : (s : State) (bs : List ℕ) → s.page.scan ≡ scans.Passes → s.pending ≡ Nothing → fed s bs ≡ told s bs (length bs)
+all-pass : (s : State) (bs : List ℕ) → s.page.scan ≡ scans.Passes → s.pending ≡ Nothing → fed s bs ≡ emitted s bs (length bs)
 all-pass s bs e f =
-    let P : State → Type 0 = λ u. fed u bs ≡ told u bs (length bs) in
+    let P : State → Type 0 = λ u. fed u bs ≡ emitted u bs (length bs) in
     subst P (at-self scans.Passes s e f)
     (fed-passing any (at scans.Passes s) (λ b h. passes_read b s) bs (each_any bs))
 
@@ -73,45 +73,45 @@ text-before : (bs : List ℕ) → each is_text (take (before_newline bs) bs) ≡
 text-before [] = refl
 text-before (b ∷ bs) = before-text (b == code "\n") b bs refl (text-before bs)
 
-stays : (front : Front) (lines b : ℕ) → (b == code "\n") ≡ false → passes_to front lines b ≡ scans.Asleep (front_then front b) lines
+stays : (prefix : Prefix) (lines b : ℕ) → (b == code "\n") ≡ false → passes_to prefix lines b ≡ scans.Asleep (prefix_then prefix b) lines
 unfolding scan_by
-stays front lines b e =
-    ap (λ (t : Bool). scan_by (not t) (is_blank front) (nat_lt lines 63) (front_then front b) lines) e
+stays prefix lines b e =
+    ap (λ (t : Bool). scan_by (not t) (is_blank prefix) (nat_lt lines 63) (prefix_then prefix b) lines) e
 
-other_read : (lines b : ℕ) (s : State) → read_with None fronts.Other lines b s ≡ told (at (passes_to fronts.Other lines b) s) (b ∷ []) 1
+other_read : (lines b : ℕ) (s : State) → read_with None prefixes.Other lines b s ≡ emitted (at (passes_to prefixes.Other lines b) s) (b ∷ []) 1
 unfolding at said lay_out read_with
 other_read lines b s = refl
 
-comment_read : (lines b : ℕ) (s : State) → read_with None fronts.Comment lines b s ≡ told (at (passes_to fronts.Comment lines b) s) (b ∷ []) 1
+comment_read : (lines b : ℕ) (s : State) → read_with None prefixes.Comment lines b s ≡ emitted (at (passes_to prefixes.Comment lines b) s) (b ∷ []) 1
 unfolding at said lay_out read_with
 comment_read lines b s = refl
 
-other-pass : (s : State) (lines : ℕ) (bs : List ℕ) → s.page.scan ≡ scans.Asleep fronts.Other lines → s.pending ≡ Nothing
-    → fed s (take (before_newline bs) bs) ≡ told s (take (before_newline bs) bs) (length (take (before_newline bs) bs))
+other-pass : (s : State) (lines : ℕ) (bs : List ℕ) → s.page.scan ≡ scans.Asleep prefixes.Other lines → s.pending ≡ Nothing
+    → fed s (take (before_newline bs) bs) ≡ emitted s (take (before_newline bs) bs) (length (take (before_newline bs) bs))
 other-pass s lines bs e f =
-    let scan = scans.Asleep fronts.Other lines in
+    let scan = scans.Asleep prefixes.Other lines in
     let text = take (before_newline bs) bs in
-    let P : State → Type 0 = λ u. fed u text ≡ told u text (length text) in
+    let P : State → Type 0 = λ u. fed u text ≡ emitted u text (length text) in
     subst P (at-self scan s e f)
-    (fed-passing is_text (at scan s) (λ b h. read-is fronts.Other lines b s ∙ other_read lines b s
-    ∙ ap (λ (x : Scan). told (at x s) (b ∷ []) 1) (stays fronts.Other lines b (is_not (b == code "\n") h))) text (text-before bs))
+    (fed-passing is_text (at scan s) (λ b h. read-is prefixes.Other lines b s ∙ other_read lines b s
+    ∙ ap (λ (x : Scan). emitted (at x s) (b ∷ []) 1) (stays prefixes.Other lines b (is_not (b == code "\n") h))) text (text-before bs))
 
-comment-pass : (s : State) (lines : ℕ) (bs : List ℕ) → s.page.scan ≡ scans.Asleep fronts.Comment lines → s.pending ≡ Nothing
-    → fed s (take (before_newline bs) bs) ≡ told s (take (before_newline bs) bs) (length (take (before_newline bs) bs))
+comment-pass : (s : State) (lines : ℕ) (bs : List ℕ) → s.page.scan ≡ scans.Asleep prefixes.Comment lines → s.pending ≡ Nothing
+    → fed s (take (before_newline bs) bs) ≡ emitted s (take (before_newline bs) bs) (length (take (before_newline bs) bs))
 comment-pass s lines bs e f =
-    let scan = scans.Asleep fronts.Comment lines in
+    let scan = scans.Asleep prefixes.Comment lines in
     let text = take (before_newline bs) bs in
-    let P : State → Type 0 = λ u. fed u text ≡ told u text (length text) in
+    let P : State → Type 0 = λ u. fed u text ≡ emitted u text (length text) in
     subst P (at-self scan s e f)
-    (fed-passing is_text (at scan s) (λ b h. read-is fronts.Comment lines b s ∙ comment_read lines b s
-    ∙ ap (λ (x : Scan). told (at x s) (b ∷ []) 1) (stays fronts.Comment lines b (is_not (b == code "\n") h))) text (text-before bs))
+    (fed-passing is_text (at scan s) (λ b h. read-is prefixes.Comment lines b s ∙ comment_read lines b s
+    ∙ ap (λ (x : Scan). emitted (at x s) (b ∷ []) 1) (stays prefixes.Comment lines b (is_not (b == code "\n") h))) text (text-before bs))
 
 -- ---- by where the line is read
 
 passes_in : (scan : Scan) (s : State) (bs : List ℕ) → s.page.scan ≡ scan → s.pending ≡ Nothing → Passes s (take (passing_in scan bs) bs)
 passes_in scans.Passes s bs e f = all-pass s (take (length bs) bs) e f
-passes_in (scans.Asleep fronts.Other lines) s bs e f = other-pass s lines bs e f
-passes_in (scans.Asleep fronts.Comment lines) s bs e f = comment-pass s lines bs e f
+passes_in (scans.Asleep prefixes.Other lines) s bs e f = other-pass s lines bs e f
+passes_in (scans.Asleep prefixes.Comment lines) s bs e f = comment-pass s lines bs e f
 passes_in scan s bs e f = refl
 
 passes_by : (pending : Pending) (s : State) (bs : List ℕ) → s.pending ≡ pending → Passes s (take (passing_by pending s.page.scan bs) bs)

@@ -9,12 +9,12 @@ use Rattle.mdoc_converter.specs.declared.page.Block.{Block}
 use Rattle.mdoc_converter.specs.declared.strings.Next.TheVariants.{Waits, Breaks}
 use Rattle.mdoc_converter.specs.declared.pending.Pending.{Pending}
 use Rattle.mdoc_converter.specs.declared.pending.Pending.TheVariants.{Nothing, Backslash, Star}
-use Rattle.mdoc_converter.specs.Reading.{State, Told, told, then_told, refused, stacked, once, heard_in, heard, with_pending, heard_raw, read_by, read, fed}
+use Rattle.mdoc_converter.specs.Reading.{State, Emitted, emitted, then_emitted, refused, stacked, once, heard_in, heard, with_pending, heard_raw, read_by, read, fed}
 use Rattle.mdoc_converter.specs.Saying.{parts_at, parts_of, text_of}
-use Rattle.mdoc_converter.specs.Scanning.{meet}
-use Rattle.mdoc_converter.specs.Strings.{met_by, takes_strings}
+use Rattle.mdoc_converter.specs.Scanning.{offer}
+use Rattle.mdoc_converter.specs.Strings.{offered_by, takes_strings}
 use Rattle.mdoc_converter.specs.WrittenLines.{begins_star, names_no_string}
-use Rattle.mdoc_converter.proofs.Reading.{behind-none}
+use Rattle.mdoc_converter.proofs.Reading.{preceded-none}
 use Rattle.mdoc_converter.proofs.Saying.{heard-text, text_of-append}
 
 -- ---- tests of each byte
@@ -36,8 +36,8 @@ is_not false h = refl
 
 -- ---- one byte
 
-read_by_pending : Pending → ℕ → State → Told
-read_by_pending pending b s = read_by (met_by pending b (takes_strings s.page.scan)) b s
+read_by_pending : Pending → ℕ → State → Emitted
+read_by_pending pending b s = read_by (offered_by pending b (takes_strings s.page.scan)) b s
 
 no_escape : (t : Bool) (b : ℕ) (s : State) → (b == code "\\") ≡ false → read_by (if t && (b == code "\\") then Waits Backslash else Breaks) b s ≡ read_by Breaks b s
 no_escape true b s f = ap (λ (u : Bool). read_by (if u then Waits Backslash else Breaks) b s) f
@@ -45,8 +45,8 @@ no_escape false b s f = refl
 
 heard_none : (b : ℕ) (s : State) → s.pending ≡ Nothing → read_by Breaks b s ≡ heard b s
 heard_none b s e =
-    ap (λ (x : Pending). then_told (heard_raw x (with_pending Nothing s)) (λ t. heard b t)) e
-    ∙ behind-none (heard b (with_pending Nothing s)) ∙ ap (λ (x : Pending). heard b (with_pending x s)) (sym e)
+    ap (λ (x : Pending). then_emitted (heard_raw x (with_pending Nothing s)) (λ t. heard b t)) e
+    ∙ preceded-none (heard b (with_pending Nothing s)) ∙ ap (λ (x : Pending). heard b (with_pending x s)) (sym e)
 
 read-plain : (b : ℕ) (s : State) → s.pending ≡ Nothing → (b == code "\\") ≡ false → read b s ≡ heard b s
 unfolding read read_by_pending
@@ -68,9 +68,9 @@ stacked-pending Empties outer s = refl
 
 once-pending : (b : ℕ) (s : State) → (once b s).state.pending ≡ s.pending
 unfolding once
-once-pending b s = stacked-pending (meet b s.page).seen.stack s.page.block _
+once-pending b s = stacked-pending (offer b s.page).seen.stack s.page.block _
 
-rest-pending : (t : Bool) (s : State) (u : Told) (x : Pending) → s.pending ≡ x → u.state.pending ≡ x → (if t then told s [] 0 else u).state.pending ≡ x
+rest-pending : (t : Bool) (s : State) (u : Emitted) (x : Pending) → s.pending ≡ x → u.state.pending ≡ x → (if t then emitted s [] 0 else u).state.pending ≡ x
 rest-pending true s u x p q = p
 rest-pending false s u x p q = q
 
@@ -87,10 +87,10 @@ heard-pending b s = in-pending 16 b s
 pub same_byte : (b n : ℕ) → (b == n) ≡ true → n ≡ b
 same_byte b n e = grind (arith, nat_tests)
 
--- ---- a backslash waits for what comes behind it
+-- ---- a backslash waits for what comes after it
 
 waits : (t : Bool) (s : State) → takes_strings s.page.scan ≡ t → s.pending ≡ Nothing
-    → read (code "\\") s ≡ (if t then told (with_pending Backslash s) [] 0 else heard (code "\\") s)
+    → read (code "\\") s ≡ (if t then emitted (with_pending Backslash s) [] 0 else heard (code "\\") s)
 unfolding read read_by_pending
 waits true s e f =
     ap (λ (x : Pending). read_by_pending x (code "\\") s) f
@@ -100,28 +100,28 @@ waits false s e f =
     ∙ ap (λ (t : Bool). read_by (if t && true then Waits Backslash else Breaks) (code "\\") s) e
     ∙ heard_none (code "\\") s f
 
--- what is heard of a backslash and the byte behind it
-behind_slash : ℕ → State → Told
-behind_slash b s = then_told (heard (code "\\") s) (λ t. heard b t)
+-- what is heard of a backslash and the byte after it
+after_slash : ℕ → State → Emitted
+after_slash b s = then_emitted (heard (code "\\") s) (λ t. heard b t)
 
-read-slash : (b : ℕ) (s : State) → s.pending ≡ Backslash → (b == code "*") ≡ false → read b s ≡ behind_slash b (with_pending Nothing s)
-unfolding read read_by_pending behind_slash
+read-slash : (b : ℕ) (s : State) → s.pending ≡ Backslash → (b == code "*") ≡ false → read b s ≡ after_slash b (with_pending Nothing s)
+unfolding read read_by_pending after_slash
 read-slash b s e f =
     ap (λ (x : Pending). read_by_pending x b s) e
     ∙ ap (λ (t : Bool). read_by (if t then Waits Star else Breaks) b s) f
-    ∙ ap (λ (x : Pending). then_told (heard_raw x (with_pending Nothing s)) (λ t. heard b t)) e
+    ∙ ap (λ (x : Pending). then_emitted (heard_raw x (with_pending Nothing s)) (λ t. heard b t)) e
 
 slash-text : (b : ℕ) (bs : List ℕ) (s : State) → s.pending ≡ Backslash → (b == code "*") ≡ false
     → ((t : State) → t.pending ≡ Nothing → (fed t bs).bytes ≡ text_of (parts_of t bs))
     → (fed s (b ∷ bs)).bytes ≡ text_of (parts_of (with_pending Nothing s) (code "\\" ∷ b ∷ bs))
-unfolding behind_slash
+unfolding after_slash
 slash-text b bs s e f rest =
     let slash = code "\\" in
     let s0 = with_pending Nothing s in
     let t = (heard slash s0).state in
     let u = (heard b t).state in
     let none : u.pending ≡ Nothing = heard-pending b t ∙ heard-pending slash s0 in
-    ap (λ (v : Told). (then_told v (λ w. fed w bs)).bytes) (read-slash b s e f)
+    ap (λ (v : Emitted). (then_emitted v (λ w. fed w bs)).bytes) (read-slash b s e f)
     ∙ append_assoc (heard slash s0).bytes (heard b t).bytes (fed u bs).bytes
     ∙ ap (λ (xs : List ℕ). xs ++ ((heard b t).bytes ++ (fed u bs).bytes)) (heard-text slash s0)
     ∙ ap (λ (xs : List ℕ). text_of (parts_at slash s0) ++ (xs ++ (fed u bs).bytes)) (heard-text b t)
@@ -134,7 +134,7 @@ first-text : (b : ℕ) (bs : List ℕ) (s : State) → s.pending ≡ Nothing →
     → (fed s (b ∷ bs)).bytes ≡ text_of (parts_of s (b ∷ bs))
 first-text b bs s e first rest =
     let next = (heard b s).state in
-    ap (λ (t : Told). (then_told t (λ u. fed u bs)).bytes) first
+    ap (λ (t : Emitted). (then_emitted t (λ u. fed u bs)).bytes) first
     ∙ ap (λ (xs : List ℕ). xs ++ (fed next bs).bytes) (heard-text b s)
     ∙ ap (λ (xs : List ℕ). text_of (parts_at b s) ++ xs) (rest next (heard-pending b s ∙ e))
     ∙ sym (text_of-append (parts_at b s) (parts_of next bs))
@@ -152,7 +152,7 @@ not_both false b h e = absurd (let no : false ≡ true = e in cc)
 slash_first : (t : Bool) (bs : List ℕ) (s : State) → takes_strings s.page.scan ≡ t → s.pending ≡ Nothing → begins_star bs ≡ false → Heard bs
     → (fed s (code "\\" ∷ bs ++ codes "\n")).bytes ≡ text_of (parts_of s (code "\\" ∷ bs ++ codes "\n"))
 slash_first true bs s e f star rest =
-    ap (λ (t : Told). (then_told t (λ u. fed u (bs ++ codes "\n"))).bytes) (waits true s e f)
+    ap (λ (t : Emitted). (then_emitted t (λ u. fed u (bs ++ codes "\n"))).bytes) (waits true s e f)
     ∙ rest.slash (with_pending Backslash s) refl star
     ∙ ap (λ (x : Pending). text_of (parts_of (with_pending x s) (code "\\" ∷ bs ++ codes "\n"))) (sym f)
 slash_first false bs s e f star rest = first-text (code "\\") (bs ++ codes "\n") s f (waits false s e f) rest.none

@@ -1,15 +1,15 @@
--- A word is given: in so many meetings all of it was said, or is held back.
+-- A word is given: in so many steps all of it was said, or is held back.
 use Rattle.std.proofs.Common.{◌≡◌, ℕ, ◌≤◌, ◌+◌, List, ◌++◌, Bool, true, false, not, ◌&&◌, if◌then◌else◌, ◌∙◌, ap, append_assoc, arith}
 use Rattle.mdoc_converter.specs.declared.macros.Macro.{Macro}
 use Rattle.mdoc_converter.specs.declared.page.Scan.{Scan}
 use Rattle.mdoc_converter.specs.declared.page.Scan.TheVariants as scans
 use Rattle.mdoc_converter.specs.Options.{option, reads_for}
 use Rattle.mdoc_converter.specs.Reading.{State}
-use Rattle.mdoc_converter.specs.Scanning.{meet, meet_at, meet_whole, meet_whole_at}
+use Rattle.mdoc_converter.specs.Scanning.{offer, offer_at, offer_whole, offer_whole_at}
 use Rattle.mdoc_converter.specs.WrittenLines.{prints_otherwise}
 use Rattle.mdoc_converter.specs.Words.{ends_long, heading_calls, parsed}
 use Rattle.mdoc_converter.proofs.Escapes.{and_right, is_not}
-use Rattle.mdoc_converter.proofs.Meeting.{Leads, then_leads}
+use Rattle.mdoc_converter.proofs.Offering.{Leads, then_leads}
 use Rattle.mdoc_converter.proofs.Outcomes.{takes_plain}
 use Rattle.mdoc_converter.proofs.Stepping.{At, Head, Stepped}
 
@@ -39,9 +39,9 @@ pub one_more : (i k : ℕ) → i ≤ k → 1 + i ≤ 1 + k
 one_more i k l = omega arith
 
 -- one step before a word is whole
-pub whole_behind : (m : Head) (b : ℕ) (s t : State) (k : ℕ) (xs ys all : List ℕ) → Leads b s t 1 xs → Whole m b t k ys → xs ++ ys ≡ all
+pub whole_after : (m : Head) (b : ℕ) (s t : State) (k : ℕ) (xs ys all : List ℕ) → Leads b s t 1 xs → Whole m b t k ys → xs ++ ys ≡ all
     → Whole m b s (1 + k) all
-whole_behind m b s t k xs ys all p w e = record {
+whole_after m b s t k xs ys all p w e = record {
   steps = 1 + w.steps;
   few = one_more w.steps k w.few;
   xs = xs ++ w.xs;
@@ -61,10 +61,10 @@ pub plain_reads : (m : Macro) → takes_plain m ≡ true → reads_for m ≡ fal
 unfolding takes_plain
 plain_reads m h = is_not (reads_for m) (and_right (not (prints_otherwise m)) (not (reads_for m)) h)
 
-pub given_met : (head : Head) (b : ℕ) (s : State) (word marks : List ℕ) → At head s (scans.Given false) word marks → meet b s.page ≡ parsed false s.page
-unfolding meet meet_whole
-given_met head b s word marks at =
+pub given_offered : (head : Head) (b : ℕ) (s : State) (word marks : List ℕ) → At head s (scans.Given false) word marks → offer b s.page ≡ parsed false s.page
+unfolding offer offer_whole
+given_offered head b s word marks at =
     let p = s.page in
-    ap (λ (sc : Scan). meet_at sc b p) at.scan_is ∙ ap (λ (sc : Scan). meet_whole_at sc b p) at.scan_is
+    ap (λ (sc : Scan). offer_at sc b p) at.scan_is ∙ ap (λ (sc : Scan). offer_whole_at sc b p) at.scan_is
     ∙ ap (λ (t : Bool). if t then ends_long p else if reads_for p.call.taker && not (heading_calls false p) then option p else parsed false p) at.going
     ∙ ap (λ (t : Bool). if t && not (heading_calls false p) then option p else parsed false p) (plain_reads p.call.taker at.fits)

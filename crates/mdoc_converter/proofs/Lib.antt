@@ -17,7 +17,7 @@ mod LongWords
 mod MacroLines
 mod ManyBytes
 mod MarksHeld
-mod Meeting
+mod Offering
 mod OtherLines
 mod Outcomes
 mod PartLines

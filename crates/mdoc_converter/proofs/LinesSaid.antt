@@ -74,9 +74,9 @@ is_asking_line name rest h =
     let a = asks_some (macro_of name) in
     let b = each is_plain name in
     let c = begins_blank rest in
-    let front = and_left (a && b && c) (are_asking rest) h in
-    let first = and_left (a && b) c front in
-    record { asks = and_left a b first; plain = and_right a b first; blank = and_right (a && b) c front; good = and_right (a && b && c) (are_asking rest) h }
+    let prefix = and_left (a && b && c) (are_asking rest) h in
+    let first = and_left (a && b) c prefix in
+    record { asks = and_left a b first; plain = and_right a b first; blank = and_right (a && b) c prefix; good = and_right (a && b && c) (are_asking rest) h }
 
 line_said : (l : Line) (s : State) → s.page.marks ≡ [] → is_line l ≡ true → room_for l s ≡ true → SaidAs s l
 unfolding room_for
@@ -84,9 +84,9 @@ line_said EmptyLine s none h room = record { wholes = []; said = empty_said s no
 line_said (CommentLine bs) s none h room =
     record { wholes = []; said = comment_said bs s none (and_left (each is_text bs) (names_no_string bs) h) }
 line_said (TextLine b bs) s none h room =
-    let front = and_left (begins_text b && each is_text bs) (names_no_string (b ∷ bs)) h in
-    let first = and_left (begins_text b) (each is_text bs) front in
-    let rest = and_right (begins_text b) (each is_text bs) front in
+    let prefix = and_left (begins_text b && each is_text bs) (names_no_string (b ∷ bs)) h in
+    let first = and_left (begins_text b) (each is_text bs) prefix in
+    let rest = and_right (begins_text b) (each is_text bs) prefix in
     record {
       wholes = [];
       said = record {
@@ -100,9 +100,9 @@ line_said (HeadingLine w ws) s none h room =
     record { wholes = line.wholes; said = record { words = line.words; fresh = line.fresh } }
 line_said (MacroLine name ws) s none h room =
     let written = are_written (none_named (macro_of name)) (way_named (macro_of name)) ws in
-    let front = and_left (heads_some (macro_of name) && each is_plain name) written h in
-    heads_some_said (macro_of name) name ws s none refl (and_left (heads_some (macro_of name)) (each is_plain name) front)
-    (and_right (heads_some (macro_of name)) (each is_plain name) front)
+    let prefix = and_left (heads_some (macro_of name) && each is_plain name) written h in
+    heads_some_said (macro_of name) name ws s none refl (and_left (heads_some (macro_of name)) (each is_plain name) prefix)
+    (and_right (heads_some (macro_of name)) (each is_plain name) prefix)
     (and_right (heads_some (macro_of name) && each is_plain name) written h)
 line_said (AskingLine name rest) s none h room =
     let is = is_asking_line name rest h in

@@ -21,8 +21,8 @@ use Rattle.mdoc_converter.specs.Lines.{begins, begins_or_other, call_of, calls_n
 use Rattle.mdoc_converter.specs.Macros.{macro_of}
 use Rattle.mdoc_converter.specs.Reading.{State, said}
 use Rattle.mdoc_converter.specs.Saying.{parts_of, words_of}
-use Rattle.mdoc_converter.specs.Scanning.{meet, meet_at, name_begins}
-use Rattle.mdoc_converter.specs.Seeing.{Met, met, left, taken}
+use Rattle.mdoc_converter.specs.Scanning.{offer, offer_at, name_begins}
+use Rattle.mdoc_converter.specs.Seeing.{Offered, offered, left, taken}
 use Rattle.mdoc_converter.specs.WordLaws.{reads_at}
 use Rattle.mdoc_converter.specs.WrittenLines.{Way, way_of, begins_star, each, names_no_string, Letter, Plain, Escape, are_letters, bytes_of, is_escaped, is_letter, is_plain, written, heads_words, is_item, is_mute, kept, prints_words, none_or, is_word, unless_called}
 use Rattle.mdoc_converter.proofs.After.{after, next-state}
@@ -31,29 +31,29 @@ use Rattle.mdoc_converter.proofs.BlockEnds.{Begun, display_step, heads_step, lis
 use Rattle.mdoc_converter.proofs.PartLines.{book_step, part_step}
 use Rattle.mdoc_converter.proofs.Endings.{ends_quiet, Ended, line_ended}
 use Rattle.mdoc_converter.proofs.Escapes.{and_left, and_right, both, is_not}
-use Rattle.mdoc_converter.proofs.Meeting.{with_page, Leads, Takes, then_takes, leads_by, takes_by}
+use Rattle.mdoc_converter.proofs.Offering.{with_page, Leads, Takes, then_takes, leads_by, takes_by}
 use Rattle.mdoc_converter.proofs.Outcomes.{Lined, lined_as, never}
-use Rattle.mdoc_converter.proofs.ReadWords.{not_of, between_by, between_met}
+use Rattle.mdoc_converter.proofs.ReadWords.{not_of, between_by, between_offered}
 use Rattle.mdoc_converter.proofs.TextSaid.{next-words, or_left, or_right}
 use Rattle.mdoc_converter.proofs.Stepping.{At, In, Head, Manner, plainly, Stepped, in_as, out_step, step_at}
 use Rattle.mdoc_converter.proofs.WholeWords.{heads_plain}
-use Rattle.mdoc_converter.proofs.WordRoom.{named_met, not_ending, no_escape, quotable_slash}
+use Rattle.mdoc_converter.proofs.WordRoom.{named_offered, not_ending, no_escape, quotable_slash}
 
 -- ---- between words
 
-blank_met : (head : Head) (s : State) (word marks : List ℕ) → At head s scans.Between word marks → meet (code " ") s.page ≡ met s.page (taken acts.Nothing)
+blank_offered : (head : Head) (s : State) (word marks : List ℕ) → At head s scans.Between word marks → offer (code " ") s.page ≡ offered s.page (taken acts.Nothing)
 unfolding between_by
-blank_met head s word marks at = between_met (plainly head) (code " ") s word marks at
+blank_offered head s word marks at = between_offered (plainly head) (code " ") s word marks at
 
 pub blank_taken : (head : Head) (s : State) (word marks : List ℕ) → At head s scans.Between word marks → Takes (code " ") s s 1 []
 unfolding said lay_out
 blank_taken head s word marks at =
-    takes_by (code " ") s s.page s.page acts.Nothing acts.Nothing acts.Nothing [] (blank_met head s word marks at) refl refl
+    takes_by (code " ") s s.page s.page acts.Nothing acts.Nothing acts.Nothing [] (blank_offered head s word marks at) refl refl
 
-newline_met : (head : Head) (s : State) (word marks : List ℕ) → At head s scans.Between word marks
-    → meet (code "\n") s.page ≡ met (with_scan scans.Ends s.page) (left acts.Nothing)
+newline_offered : (head : Head) (s : State) (word marks : List ℕ) → At head s scans.Between word marks
+    → offer (code "\n") s.page ≡ offered (with_scan scans.Ends s.page) (left acts.Nothing)
 unfolding between_by
-newline_met head s word marks at = between_met (plainly head) (code "\n") s word marks at
+newline_offered head s word marks at = between_offered (plainly head) (code "\n") s word marks at
 
 at_end : State → State
 at_end s = with_page (with_scan scans.Ends s.page) s
@@ -62,7 +62,7 @@ newline_leads : (head : Head) (s : State) (word marks : List ℕ) → At head s 
 unfolding said lay_out at_end
 newline_leads head s word marks at =
     leads_by (code "\n") s (with_scan scans.Ends s.page) (with_scan scans.Ends s.page) acts.Nothing acts.Nothing acts.Nothing []
-    (newline_met head s word marks at) refl refl
+    (newline_offered head s word marks at) refl refl
 
 ends_at : (head : Head) (s : State) (scan : Scan) (word marks : List ℕ) → At head s scan word marks → At head (at_end s) scans.Ends word marks
 unfolding at_end
@@ -102,26 +102,26 @@ unfolding given
 given_at going head s scan word marks at =
     in_as going head s (with_scan (scans.Given false) s.page) scan (scans.Given false) word word marks at refl at.word_is refl refl refl refl refl refl refl
 
-in_word_rest : ℕ → Page → Met
-in_word_rest b p = if b == code "\\" then met (with_scan scans.Escape p) (taken acts.Nothing) else keep_byte b false p
+in_word_rest : ℕ → Page → Offered
+in_word_rest b p = if b == code "\\" then offered (with_scan scans.Escape p) (taken acts.Nothing) else keep_byte b false p
 
-given_met : (reached : Option Reached) (going : Bool) (head : Manner) (b : ℕ) (s : State) (word marks : List ℕ) → In going head s (in_named reached false) word marks → ends_word b ≡ true
-    → meet b s.page ≡ met (with_scan (scans.Given false) s.page) (left acts.Nothing)
-unfolding meet in_word_rest
-given_met None going head b s word marks at e =
+given_offered : (reached : Option Reached) (going : Bool) (head : Manner) (b : ℕ) (s : State) (word marks : List ℕ) → In going head s (in_named reached false) word marks → ends_word b ≡ true
+    → offer b s.page ≡ offered (with_scan (scans.Given false) s.page) (left acts.Nothing)
+unfolding offer in_word_rest
+given_offered None going head b s word marks at e =
     let p = s.page in
-    ap (λ (sc : Scan). meet_at sc b p) at.scan_is ∙ ap (λ (t : Bool). if t then met (with_scan (scans.Given false) p) (left acts.Nothing) else in_word_rest b p) e
-given_met (Some reached) going head b s word marks at e =
+    ap (λ (sc : Scan). offer_at sc b p) at.scan_is ∙ ap (λ (t : Bool). if t then offered (with_scan (scans.Given false) p) (left acts.Nothing) else in_word_rest b p) e
+given_offered (Some reached) going head b s word marks at e =
     let p = s.page in
-    named_met false reached b p true at.scan_is (ap (λ (t : Bool). t || (b == code "\"") || (b == code "\\")) e)
-    ∙ ap (λ (t : Bool). if t then met (with_scan (scans.Given false) p) (left acts.Nothing) else in_word_rest b (with_scan scans.Word p)) e
+    named_offered false reached b p true at.scan_is (ap (λ (t : Bool). t || (b == code "\"") || (b == code "\\")) e)
+    ∙ ap (λ (t : Bool). if t then offered (with_scan (scans.Given false) p) (left acts.Nothing) else in_word_rest b (with_scan scans.Word p)) e
 
 pub given_leads : (reached : Option Reached) (going : Bool) (head : Manner) (b : ℕ) (s : State) (word marks : List ℕ) → In going head s (in_named reached false) word marks → ends_word b ≡ true
     → Leads b s (given s) 1 []
 unfolding said lay_out given
 given_leads reached going head b s word marks at e =
     leads_by b s (with_scan (scans.Given false) s.page) (with_scan (scans.Given false) s.page) acts.Nothing acts.Nothing acts.Nothing []
-    (given_met reached going head b s word marks at e) refl refl
+    (given_offered reached going head b s word marks at e) refl refl
 
 -- a blank ends a word: these bytes of words were said, and the line is read between words
 pub record Said (m : Head) (s : State) (all : List ℕ) : Type 0 where
@@ -159,52 +159,52 @@ regrouped xs marks all us vs e =
 
 -- ---- the name of a line
 
-control_met : (p : Page) → meet (code ".") (with_scan scans.Start p) ≡ met (with_scan scans.Control p) (taken acts.Nothing)
-unfolding meet
-control_met p = refl
+control_offered : (p : Page) → offer (code ".") (with_scan scans.Start p) ≡ offered (with_scan scans.Control p) (taken acts.Nothing)
+unfolding offer
+control_offered p = refl
 
 pub control_taken : (s : State) → Takes (code ".") (reads_at scans.Start s) (reads_at scans.Control s) 1 []
 unfolding said lay_out
 control_taken s =
     takes_by (code ".") (reads_at scans.Start s) (with_scan scans.Control s.page) (with_scan scans.Control s.page) acts.Nothing acts.Nothing acts.Nothing []
-    (control_met s.page) refl refl
+    (control_offered s.page) refl refl
 
 -- so much of a name was read
 unfoldable pub reads_name : List ℕ → State → State
 reads_name name s = record s { page = record s.page { scan = scans.Name; word = name }; pending = Nothing }
 
-behind_by : Bool → Bool → Bool → ℕ → Page → Met
-behind_by blank newline escape b p =
-    if blank then met p (taken acts.Nothing) else
-    if newline then met (with_scan scans.Start p) (taken acts.Nothing) else
-    if escape then met (with_scan scans.ControlEscape p) (taken acts.Nothing) else name_begins b p
+after_by : Bool → Bool → Bool → ℕ → Page → Offered
+after_by blank newline escape b p =
+    if blank then offered p (taken acts.Nothing) else
+    if newline then offered (with_scan scans.Start p) (taken acts.Nothing) else
+    if escape then offered (with_scan scans.ControlEscape p) (taken acts.Nothing) else name_begins b p
 
-begins_met : (b : ℕ) (p : Page)
-    → meet b (with_scan scans.Control p) ≡ behind_by ((b == code " ") || (b == code "\t")) (b == code "\n") (b == code "\\") b (with_scan scans.Control p)
-unfolding meet behind_by
-begins_met b p = refl
+begins_offered : (b : ℕ) (p : Page)
+    → offer b (with_scan scans.Control p) ≡ after_by ((b == code " ") || (b == code "\t")) (b == code "\n") (b == code "\\") b (with_scan scans.Control p)
+unfolding offer after_by
+begins_offered b p = refl
 
 pub name_begun : (b : ℕ) (s : State) → is_plain b ≡ true → Takes b (reads_at scans.Control s) (reads_name (b ∷ []) s) 1 []
-unfolding said lay_out behind_by reads_name
+unfolding said lay_out after_by reads_name
 name_begun b s h =
     let p = with_scan scans.Control s.page in
     let q = record s.page { scan = scans.Name; word = b ∷ [] } in
     let blank_or = (b == code " ") || (b == code "\t") in
     let other = not_of (ends_word b) (not_ending b h) in
     takes_by b (reads_at scans.Control s) q q acts.Nothing acts.Nothing acts.Nothing []
-    (begins_met b s.page
-    ∙ ap (λ (t : Bool). behind_by t (b == code "\n") (b == code "\\") b p) (or_left blank_or (b == code "\n") other)
-    ∙ ap (λ (t : Bool). behind_by false t (b == code "\\") b p) (or_right blank_or (b == code "\n") other)
-    ∙ ap (λ (t : Bool). behind_by false false t b p) (no_escape b h))
+    (begins_offered b s.page
+    ∙ ap (λ (t : Bool). after_by t (b == code "\n") (b == code "\\") b p) (or_left blank_or (b == code "\n") other)
+    ∙ ap (λ (t : Bool). after_by false t (b == code "\\") b p) (or_right blank_or (b == code "\n") other)
+    ∙ ap (λ (t : Bool). after_by false false t b p) (no_escape b h))
     refl refl
 
-name_by : Bool → Bool → Bool → ℕ → Page → Met
-name_by ends escape full b p = if ends || escape || full then named_line p else met (record p { word = p.word ++ b ∷ [] }) (taken acts.Nothing)
+name_by : Bool → Bool → Bool → ℕ → Page → Offered
+name_by ends escape full b p = if ends || escape || full then named_line p else offered (record p { word = p.word ++ b ∷ [] }) (taken acts.Nothing)
 
-name_met : (b : ℕ) (name : List ℕ) (s : State)
-    → meet b (reads_name name s).page ≡ name_by (ends_word b) (b == code "\\") (is_full name) b (reads_name name s).page
-unfolding meet name_by reads_name
-name_met b name s = refl
+name_offered : (b : ℕ) (name : List ℕ) (s : State)
+    → offer b (reads_name name s).page ≡ name_by (ends_word b) (b == code "\\") (is_full name) b (reads_name name s).page
+unfolding offer name_by reads_name
+name_offered b name s = refl
 
 not_full : (name : List ℕ) → length name < capacity → is_full name ≡ false
 not_full name l = grind (arith, nat_tests)
@@ -216,7 +216,7 @@ name_taken b name s h l =
     let p = record s.page { scan = scans.Name; word = name } in
     let q = record s.page { scan = scans.Name; word = name ++ b ∷ [] } in
     takes_by b (reads_name name s) q q acts.Nothing acts.Nothing acts.Nothing []
-    (name_met b name s
+    (name_offered b name s
     ∙ ap (λ (t : Bool). name_by t (b == code "\\") (is_full name) b p) (not_ending b h)
     ∙ ap (λ (t : Bool). name_by false t (is_full name) b p) (no_escape b h)
     ∙ ap (λ (t : Bool). name_by false false t b p) (not_full name l))
@@ -251,12 +251,12 @@ name_more_state (b ∷ bs) name s rest h l =
 unfoldable pub beginning : Macro → List ℕ → State → Page
 beginning m name s = record s.page { scan = scans.Between; word = name; closers = []; call = call_of m }
 
-pub macro_met : (b : ℕ) (m : Macro) (name : List ℕ) (s : State) → ends_word b ≡ true → macro_of name ≡ Some m
-    → meet b (reads_name name s).page ≡ begins m (beginning m name s)
+pub macro_offered : (b : ℕ) (m : Macro) (name : List ℕ) (s : State) → ends_word b ≡ true → macro_of name ≡ Some m
+    → offer b (reads_name name s).page ≡ begins m (beginning m name s)
 unfolding name_by reads_name beginning
-macro_met b m name s e f =
+macro_offered b m name s e f =
     let p = record s.page { scan = scans.Name; word = name } in
-    name_met b name s ∙ ap (λ (t : Bool). name_by t (b == code "\\") (is_full name) b p) e
+    name_offered b name s ∙ ap (λ (t : Bool). name_by t (b == code "\\") (is_full name) b p) e
     ∙ ap (λ (o : Option Macro). begins_or_other o (record p { scan = scans.Between; closers = [] })) f
 
 -- its words are taken as the macro takes them
@@ -279,7 +279,7 @@ begun_on m name s marks h = record {
 
 -- the words of an item's line may call macros, or call none
 item_step : (b : ℕ) (s : State) (q : Page) (word : List ℕ) → Begun (head_of macros.Item false) q word
-    → meet b s.page ≡ item q → Stepped (head_of macros.Item (is_diagnosis q.block.kind)) b s 1 [] scans.Between word []
+    → offer b s.page ≡ item q → Stepped (head_of macros.Item (is_diagnosis q.block.kind)) b s 1 [] scans.Between word []
 item_step b s q word begun e =
     let mute = is_diagnosis q.block.kind in
     let head = head_of macros.Item mute in
@@ -294,25 +294,25 @@ apart_step : (b : ℕ) (m : Macro) (name : List ℕ) (s : State) → s.page.mark
 unfolding begins beginning
 apart_step b macros.ListEnds name s marks e f h c =
     let q = beginning macros.ListEnds name s in
-    list_step (head_of macros.ListEnds false) b (reads_name name s) q name (begun_on macros.ListEnds name s marks h) (macro_met b macros.ListEnds name s e f)
+    list_step (head_of macros.ListEnds false) b (reads_name name s) q name (begun_on macros.ListEnds name s marks h) (macro_offered b macros.ListEnds name s e f)
 apart_step b macros.DisplayEnds name s marks e f h c =
     let q = beginning macros.DisplayEnds name s in
     display_step q.block.kind (head_of macros.DisplayEnds false) b (reads_name name s) q name (begun_on macros.DisplayEnds name s marks h)
-    (macro_met b macros.DisplayEnds name s e f)
+    (macro_offered b macros.DisplayEnds name s e f)
 apart_step b macros.BookEnds name s marks e f h c =
     let q = beginning macros.BookEnds name s in
-    book_step (head_of macros.BookEnds false) b (reads_name name s) q name (begun_on macros.BookEnds name s marks h) (macro_met b macros.BookEnds name s e f)
+    book_step (head_of macros.BookEnds false) b (reads_name name s) q name (begun_on macros.BookEnds name s marks h) (macro_offered b macros.BookEnds name s e f)
 apart_step b (macros.Part letter) name s marks e f h c =
     let q = beginning (macros.Part letter) name s in
     part_step letter (head_of (macros.Part letter) true) b (reads_name name s) q name (begun_on (macros.Part letter) name s marks h)
-    (macro_met b (macros.Part letter) name s e f)
+    (macro_offered b (macros.Part letter) name s e f)
 apart_step b macros.Subsection name s marks e f h c =
     let q = beginning macros.Subsection name s in
     heads_step (head_of macros.Subsection false) b (reads_name name s) q name (begun_on macros.Subsection name s marks h)
-    (macro_met b macros.Subsection name s e f)
+    (macro_offered b macros.Subsection name s e f)
 apart_step b macros.Item name s marks e f h c =
     let q = beginning macros.Item name s in
-    item_step b (reads_name name s) q name (begun_on macros.Item name s marks h) (macro_met b macros.Item name s e f)
+    item_step b (reads_name name s) q name (begun_on macros.Item name s marks h) (macro_offered b macros.Item name s e f)
 apart_step b m name s marks e f h c = never c
 
 not_item : (m : Macro) → begins_apart m ≡ false → is_item m ≡ false
@@ -333,7 +333,7 @@ unfolding beginning
 macro_step_by true b m name s marks e f h c = apart_step b m name s marks e f h c
 macro_step_by false b m name s marks e f h c =
     let q = beginning m name s in
-    out_step (head_of m (is_mute s.page.block m)) b (reads_name name s) (begins m q) q [] [] (macro_met b m name s e f)
+    out_step (head_of m (is_mute s.page.block m)) b (reads_name name s) (begins m q) q [] [] (macro_offered b m name s e f)
     (begins_out m q h c (heads_plain m h) refl) marks (omega arith) refl refl
     (ap (lined_as m) (sym (mute_by m s.page.block c))) refl (λ k. refl)
 

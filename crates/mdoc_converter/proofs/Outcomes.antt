@@ -1,4 +1,4 @@
--- What a meeting says of a word, and what it leaves of the page as it was.
+-- What a step says of a word, and what it leaves of the page as it was.
 use Rattle.std.proofs.Common.{◌≡◌, ℕ, ◌≤◌, List, [], ◌++◌, length, Bool, true, false, not, ◌&&◌, if◌then◌else◌, refl, sym, ◌∙◌, ap}
 use Prim.Native.Char.{code}
 use Rattle.mdoc_converter.specs.declared.acts.Act.{Act}
@@ -15,14 +15,14 @@ use Rattle.mdoc_converter.specs.declared.page.Call.{Call}
 use Rattle.mdoc_converter.specs.declared.page.Lay.{Lay}
 use Rattle.mdoc_converter.specs.declared.page.Page.{Page}
 use Rattle.mdoc_converter.specs.declared.seen.Seen.{Seen}
-use Rattle.mdoc_converter.specs.Calls.{is_synopsis, heads_line, after_name, takes_no_more, due_from, due, leaves, function_closes}
+use Rattle.mdoc_converter.specs.Calls.{is_synopsis, heads_line, after_name, takes_no_more, pending_from, pending, leaves, function_closes}
 use Rattle.mdoc_converter.specs.Laying.{laid, with_lay}
 use Rattle.mdoc_converter.specs.LayingOut.{lay_out}
 use Rattle.mdoc_converter.specs.Options.{is_heading, reads_for}
 use Rattle.mdoc_converter.specs.OwnLines.{fresh, was_sized}
 use Rattle.mdoc_converter.specs.Reading.{said}
 use Rattle.mdoc_converter.specs.Saying.{part_of, parts_seen, words_of}
-use Rattle.mdoc_converter.specs.Seeing.{Met, met, three}
+use Rattle.mdoc_converter.specs.Seeing.{Offered, offered, three}
 use Rattle.mdoc_converter.specs.WrittenLines.{prints_otherwise, Usual, way_of}
 
 -- ---- acts that leave all of the page but how text is laid out
@@ -216,7 +216,7 @@ keeps_no_more q p u i = record {
 -- ---- what is said
 
 -- of the word these bytes are said
-pub record Out (m : Met) (q : Page) (xs : List ℕ) : Type 0 where
+pub record Out (m : Offered) (q : Page) (xs : List ℕ) : Type 0 where
   pub x : Act
   pub y : Act
   pub z : Act
@@ -228,29 +228,29 @@ pub record Out (m : Met) (q : Page) (xs : List ℕ) : Type 0 where
   pub keeps : Keeps q m.page
 
 pub out : (p q : Page) (x y z : Act) (xs : List ℕ) → is_quiet x ≡ true → is_quiet y ≡ true → is_quiet z ≡ true
-    → of_word x q.word ++ (of_word y q.word ++ (of_word z q.word ++ [])) ≡ xs → Keeps q p → Out (met p (three x y z)) q xs
+    → of_word x q.word ++ (of_word y q.word ++ (of_word z q.word ++ [])) ≡ xs → Keeps q p → Out (offered p (three x y z)) q xs
 out p q x y z xs i j k e keeps =
     record { x = x; y = y; z = z; seen = refl; quiet_x = i; quiet_y = j; quiet_z = k; words = e; keeps = keeps }
 
-pub out_if : (t : Bool) (m n : Met) (q : Page) (xs : List ℕ) → Out m q xs → Out n q xs → Out (if t then m else n) q xs
+pub out_if : (t : Bool) (m n : Offered) (q : Page) (xs : List ℕ) → Out m q xs → Out n q xs → Out (if t then m else n) q xs
 out_if true m n q xs i j = i
 out_if false m n q xs i j = j
 
-pub out_when : (t : Bool) (m n : Met) (q : Page) (xs : List ℕ) → (t ≡ true → Out m q xs) → Out n q xs → Out (if t then m else n) q xs
+pub out_when : (t : Bool) (m n : Offered) (q : Page) (xs : List ℕ) → (t ≡ true → Out m q xs) → Out n q xs → Out (if t then m else n) q xs
 out_when true m n q xs i j = i refl
 out_when false m n q xs i j = j
 
-pub out_seen_if : (t : Bool) (a b : Seen) (p q : Page) (xs : List ℕ) → Out (met p a) q xs → Out (met p b) q xs → Out (met p (if t then a else b)) q xs
+pub out_seen_if : (t : Bool) (a b : Seen) (p q : Page) (xs : List ℕ) → Out (offered p a) q xs → Out (offered p b) q xs → Out (offered p (if t then a else b)) q xs
 out_seen_if true a b p q xs i j = i
 out_seen_if false a b p q xs i j = j
 
 pub out_act_if : (t : Bool) (a b : Act) (p q : Page) (xs : List ℕ)
-    → Out (met p (three a acts.Nothing acts.Nothing)) q xs → Out (met p (three b acts.Nothing acts.Nothing)) q xs
-    → Out (met p (three (if t then a else b) acts.Nothing acts.Nothing)) q xs
+    → Out (offered p (three a acts.Nothing acts.Nothing)) q xs → Out (offered p (three b acts.Nothing acts.Nothing)) q xs
+    → Out (offered p (three (if t then a else b) acts.Nothing acts.Nothing)) q xs
 out_act_if true a b p q xs i j = i
 out_act_if false a b p q xs i j = j
 
--- ---- nothing of a word is said: what is due, and macros that are called
+-- ---- nothing of a word is said: what is pending, and macros that are called
 
 pub same_page : (q : Page) → takes_plain q.call.taker ≡ true → Keeps q q
 same_page q f =
@@ -263,32 +263,32 @@ function_closes_out p f =
     (out _ p (acts.Close texts.FunctionEnds) (acts.Request requests.HangEnds) acts.Nothing [] refl refl refl refl assumption)
     (out _ p (acts.Close (texts.Closing (code ")"))) acts.Nothing acts.Nothing [] refl refl refl refl assumption)
 
-pub due_out : (m : Macro) (p : Page) → takes_plain p.call.taker ≡ true → Out (due_from m p) p []
+pub pending_out : (m : Macro) (p : Page) → takes_plain p.call.taker ≡ true → Out (pending_from m p) p []
 unfolding is_quiet of_word
-due_out macros.Flag p f = out p p (acts.Text texts.Dash) acts.Nothing acts.Nothing [] refl refl refl refl (same_page p f)
-due_out macros.Argument p f = out p p (acts.Text texts.File) (acts.Text texts.Dots) acts.Nothing [] refl refl refl refl (same_page p f)
-due_out macros.Path p f = out p p (acts.Text texts.Home) acts.Nothing acts.Nothing [] refl refl refl refl (same_page p f)
-due_out macros.Mail p f = out p p (acts.Text texts.Home) acts.Nothing acts.Nothing [] refl refl refl refl (same_page p f)
-due_out macros.Att p f = out p p (acts.Text texts.Att) acts.Nothing acts.Nothing [] refl refl refl refl (same_page p f)
-due_out (macros.Stands system) p f = out p p (acts.Text (texts.System system)) acts.Nothing acts.Nothing [] refl refl refl refl (same_page p f)
-due_out macros.Bsd p f = out p p (acts.Text texts.Bsd) acts.Nothing acts.Nothing [] refl refl refl refl (same_page p f)
-due_out macros.Name p f =
+pending_out macros.Flag p f = out p p (acts.Text texts.Dash) acts.Nothing acts.Nothing [] refl refl refl refl (same_page p f)
+pending_out macros.Argument p f = out p p (acts.Text texts.File) (acts.Text texts.Dots) acts.Nothing [] refl refl refl refl (same_page p f)
+pending_out macros.Path p f = out p p (acts.Text texts.Home) acts.Nothing acts.Nothing [] refl refl refl refl (same_page p f)
+pending_out macros.Mail p f = out p p (acts.Text texts.Home) acts.Nothing acts.Nothing [] refl refl refl refl (same_page p f)
+pending_out macros.Att p f = out p p (acts.Text texts.Att) acts.Nothing acts.Nothing [] refl refl refl refl (same_page p f)
+pending_out (macros.Stands system) p f = out p p (acts.Text (texts.System system)) acts.Nothing acts.Nothing [] refl refl refl refl (same_page p f)
+pending_out macros.Bsd p f = out p p (acts.Text texts.Bsd) acts.Nothing acts.Nothing [] refl refl refl refl (same_page p f)
+pending_out macros.Name p f =
     out_if (heads_line p) _ _ p []
     (out (after_name p) p (acts.Hanging _) acts.Own acts.Nothing [] refl refl refl refl assumption)
     (out p p acts.Own acts.Nothing acts.Nothing [] refl refl refl refl (same_page p f))
-due_out macros.Function p f = function_closes_out p f
-due_out macros.Link p f =
+pending_out macros.Function p f = function_closes_out p f
+pending_out macros.Link p f =
     out_seen_if p.call.listed _ _ p p []
     (out p p (acts.Close texts.Colon) (acts.Text texts.Link) acts.Nothing [] refl refl refl refl (same_page p f))
     (out p p acts.Fresh (acts.Text texts.Link) acts.Nothing [] refl refl refl refl (same_page p f))
-due_out (macros.Encloses pair) p f = out p p (acts.Text (texts.Opening pair)) acts.Join acts.Nothing [] refl refl refl refl (same_page p f)
-due_out (macros.Opens pair) p f = out p p (acts.Text (texts.Opening pair)) acts.Join acts.Nothing [] refl refl refl refl (same_page p f)
-due_out m p f = out p p acts.Nothing acts.Nothing acts.Nothing [] refl refl refl refl (same_page p f)
+pending_out (macros.Encloses pair) p f = out p p (acts.Text (texts.Opening pair)) acts.Join acts.Nothing [] refl refl refl refl (same_page p f)
+pending_out (macros.Opens pair) p f = out p p (acts.Text (texts.Opening pair)) acts.Join acts.Nothing [] refl refl refl refl (same_page p f)
+pending_out m p f = out p p acts.Nothing acts.Nothing acts.Nothing [] refl refl refl refl (same_page p f)
 
 pub leaves_out : (p : Page) → takes_plain p.call.taker ≡ true → way_of p.call.taker ≡ Usual → Out (leaves p) p []
 unfolding leaves
 leaves_out p f u =
-    let d = due_out p.call.taker p f in
+    let d = pending_out p.call.taker p f in
     record {
       x = d.x;
       y = d.y;
@@ -298,5 +298,5 @@ leaves_out p f u =
       quiet_y = d.quiet_y;
       quiet_z = d.quiet_z;
       words = d.words;
-      keeps = keeps_no_more p (due p).page u d.keeps;
+      keeps = keeps_no_more p (pending p).page u d.keeps;
     }

@@ -14,11 +14,11 @@ use Rattle.mdoc_converter.specs.Options.{none}
 use Rattle.mdoc_converter.specs.OwnLines.{put_head}
 use Rattle.mdoc_converter.specs.Reading.{State, said}
 use Rattle.mdoc_converter.specs.References.{author_head, authors_of, has_part, more_authors, most_parts, order, put_author_head, put_authors, put_comma, put_part, put_part_begin, put_part_head, put_parts, put_stop, put_title_part, with_listed, with_part}
-use Rattle.mdoc_converter.specs.Scanning.{meet}
-use Rattle.mdoc_converter.specs.Seeing.{met, left, two}
+use Rattle.mdoc_converter.specs.Scanning.{offer}
+use Rattle.mdoc_converter.specs.Seeing.{offered, left, two}
 use Rattle.mdoc_converter.specs.WrittenLines.{way_of}
 use Rattle.mdoc_converter.proofs.BlockEnds.{Begun, none_step}
-use Rattle.mdoc_converter.proofs.Meeting.{with_page, leads_by}
+use Rattle.mdoc_converter.proofs.Offering.{with_page, leads_by}
 use Rattle.mdoc_converter.proofs.Outcomes.{lined, takes_plain}
 use Rattle.mdoc_converter.proofs.Stepping.{Head, Stepped}
 
@@ -100,7 +100,7 @@ begin_same : (letter : ℕ) (p : Page) → Same p (put_part_begin letter p).page
 begin_same letter p = same_if (letter == code "A") p _ _ (author_same p) (part_head_by (has_part letter p) letter p refl)
 
 part_by : (t : Bool) (letter : ℕ) (head : Head) (b : ℕ) (s : State) (p : Page) (word : List ℕ) → Begun head p word
-    → meet b s.page ≡ (if not t then none p else met p (two (acts.Part letter) acts.Join)) → Stepped head b s 1 [] scans.Between word []
+    → offer b s.page ≡ (if not t then none p else offered p (two (acts.Part letter) acts.Join)) → Stepped head b s 1 [] scans.Between word []
 unfolding said lay_out
 part_by false letter head b s p word begun e = none_step head b s p word begun e
 part_by true letter head b s p word begun e =
@@ -124,7 +124,7 @@ part_by true letter head b s p word begun e =
       };
     }
 
-pub part_step : (letter : ℕ) (head : Head) (b : ℕ) (s : State) (p : Page) (word : List ℕ) → Begun head p word → meet b s.page ≡ part_begins letter p
+pub part_step : (letter : ℕ) (head : Head) (b : ℕ) (s : State) (p : Page) (word : List ℕ) → Begun head p word → offer b s.page ≡ part_begins letter p
     → Stepped head b s 1 [] scans.Between word []
 part_step letter head b s p word begun e = part_by p.place.reference letter head b s p word begun e
 
@@ -183,7 +183,7 @@ ended_same q =
     subst (λ (p : Page). Same q p) (sym (ap (λ (p : Page). (lay_out acts.Nothing p).page) (nothing_page r) ∙ nothing_page r)) (reference_same q)
 
 book_by : (t : Bool) (head : Head) (b : ℕ) (s : State) (p : Page) (word : List ℕ) → Begun head p word
-    → meet b s.page ≡ (if not t then none p else met (with_place (record p.place { reference = false }) p) (left acts.Reference))
+    → offer b s.page ≡ (if not t then none p else offered (with_place (record p.place { reference = false }) p) (left acts.Reference))
     → Stepped head b s 1 [] scans.Between word []
 unfolding said
 book_by false head b s p word begun e = none_step head b s p word begun e
@@ -209,6 +209,6 @@ book_by true head b s p word begun e =
       };
     }
 
-pub book_step : (head : Head) (b : ℕ) (s : State) (p : Page) (word : List ℕ) → Begun head p word → meet b s.page ≡ book_ends p
+pub book_step : (head : Head) (b : ℕ) (s : State) (p : Page) (word : List ℕ) → Begun head p word → offer b s.page ≡ book_ends p
     → Stepped head b s 1 [] scans.Between word []
 book_step head b s p word begun e = book_by p.place.reference head b s p word begun e

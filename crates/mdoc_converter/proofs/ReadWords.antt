@@ -13,14 +13,14 @@ use Rattle.mdoc_converter.specs.Keeping.{ends_in_hyphen, ends_word, in_named, in
 use Rattle.mdoc_converter.specs.LayingOut.{lay_out}
 use Rattle.mdoc_converter.specs.Reading.{State, said}
 use Rattle.mdoc_converter.specs.Saying.{parts_of, words_of}
-use Rattle.mdoc_converter.specs.Scanning.{between, meet, meet_at}
-use Rattle.mdoc_converter.specs.Seeing.{Met, met, left, taken}
+use Rattle.mdoc_converter.specs.Scanning.{between, offer, offer_at}
+use Rattle.mdoc_converter.specs.Seeing.{Offered, offered, left, taken}
 use Rattle.mdoc_converter.specs.Words.{goes_to}
-use Rattle.mdoc_converter.specs.WrittenLines.{Letter, Plain, Escape, reached_behind, is_hyphen, is_letter, are_letters, bytes_of, kept, kept_first, kept_in, kept_letter, written}
+use Rattle.mdoc_converter.specs.WrittenLines.{Letter, Plain, Escape, reached_after, is_hyphen, is_letter, are_letters, bytes_of, kept, kept_first, kept_in, kept_letter, written}
 use Rattle.mdoc_converter.proofs.Escapes.{and_left, and_right, same_byte}
 use Rattle.mdoc_converter.proofs.After.{after, after-append, next-state}
-use Rattle.mdoc_converter.proofs.KeptWords.{Grown, grown_behind, grown_escaped, grown_first, grown_quote}
-use Rattle.mdoc_converter.proofs.Meeting.{with_page, Leads, Takes, then_takes, leads_by, takes_by}
+use Rattle.mdoc_converter.proofs.KeptWords.{Grown, grown_following, grown_escaped, grown_first, grown_quote}
+use Rattle.mdoc_converter.proofs.Offering.{with_page, Leads, Takes, then_takes, leads_by, takes_by}
 use Rattle.mdoc_converter.proofs.Stepping.{In, Manner, in_as}
 use Rattle.mdoc_converter.proofs.TextSaid.{next-words, or_left, or_right}
 use Rattle.mdoc_converter.proofs.Together.{same_whole}
@@ -101,7 +101,7 @@ hyphen_by false y word piece f = f word
 few_enough : (k : ℕ) → k ≤ 6 → k ≤ 16
 few_enough k l = omega arith
 
--- what was read and a byte behind it
+-- what was read and a byte after it
 then_byte : (head : Manner) (quoted whole : Bool) (s : State) (scan scan2 : Scan) (b : ℕ) (bs marks all piece : List ℕ) (first hyphen y : Bool)
     (r : Read head quoted whole s scan bs marks all first hyphen) (g : Grown r.going head b r.next scan2 r.word r.held piece)
     → is_none piece ≡ false → ((w : List ℕ) → ends_in_hyphen (w ++ piece) ≡ y)
@@ -167,13 +167,13 @@ read_as head quoted whole s scan bs bs2 marks all all2 first hyphen e f r =
 
 -- ---- a backslash, and a quote between quotes
 
-slash_met : (quoted : Bool) (reached : Option Reached) (going : Bool) (head : Manner) (s : State) (word marks : List ℕ) → In going head s (in_named reached quoted) word marks
-    → meet (code "\\") s.page ≡ met (with_scan (goes_to (within_escape quoted)) s.page) (taken acts.Nothing)
-unfolding meet
-slash_met true None going head s word marks at = ap (λ (sc : Scan). meet_at sc (code "\\") s.page) at.scan_is
-slash_met false None going head s word marks at = ap (λ (sc : Scan). meet_at sc (code "\\") s.page) at.scan_is
-slash_met true (Some reached) going head s word marks at = ap (λ (sc : Scan). meet_at sc (code "\\") s.page) at.scan_is
-slash_met false (Some reached) going head s word marks at = ap (λ (sc : Scan). meet_at sc (code "\\") s.page) at.scan_is
+slash_offered : (quoted : Bool) (reached : Option Reached) (going : Bool) (head : Manner) (s : State) (word marks : List ℕ) → In going head s (in_named reached quoted) word marks
+    → offer (code "\\") s.page ≡ offered (with_scan (goes_to (within_escape quoted)) s.page) (taken acts.Nothing)
+unfolding offer
+slash_offered true None going head s word marks at = ap (λ (sc : Scan). offer_at sc (code "\\") s.page) at.scan_is
+slash_offered false None going head s word marks at = ap (λ (sc : Scan). offer_at sc (code "\\") s.page) at.scan_is
+slash_offered true (Some reached) going head s word marks at = ap (λ (sc : Scan). offer_at sc (code "\\") s.page) at.scan_is
+slash_offered false (Some reached) going head s word marks at = ap (λ (sc : Scan). offer_at sc (code "\\") s.page) at.scan_is
 
 then_slash : (reached : Option Reached) (head : Manner) (quoted whole : Bool) (s : State) (bs marks all : List ℕ) (first hyphen : Bool)
     → Read head quoted whole s (in_named reached quoted) bs marks all first hyphen
@@ -184,15 +184,15 @@ then_slash reached head quoted whole s bs marks all first hyphen r =
     let scan = goes_to (within_escape quoted) in
     let q = with_scan scan p in
     then_scan head quoted whole s (with_page q r.next) (in_named reached quoted) scan (code "\\") bs marks all first hyphen r
-    (takes_by (code "\\") r.next q q acts.Nothing acts.Nothing acts.Nothing [] (slash_met quoted reached r.going head r.next r.word r.held r.at) refl refl)
+    (takes_by (code "\\") r.next q q acts.Nothing acts.Nothing acts.Nothing [] (slash_offered quoted reached r.going head r.next r.word r.held r.at) refl refl)
     (in_as r.going head r.next q (in_named reached quoted) scan r.word r.word r.held r.at refl r.at.word_is refl refl refl refl refl refl refl)
     (same_whole p q refl refl)
 
-closing_met : (reached : Option Reached) (going : Bool) (head : Manner) (s : State) (word marks : List ℕ) → In going head s (in_named reached true) word marks
-    → meet (code "\"") s.page ≡ met (with_scan scans.Closing s.page) (taken acts.Nothing)
-unfolding meet
-closing_met None going head s word marks at = ap (λ (sc : Scan). meet_at sc (code "\"") s.page) at.scan_is
-closing_met (Some reached) going head s word marks at = ap (λ (sc : Scan). meet_at sc (code "\"") s.page) at.scan_is
+closing_offered : (reached : Option Reached) (going : Bool) (head : Manner) (s : State) (word marks : List ℕ) → In going head s (in_named reached true) word marks
+    → offer (code "\"") s.page ≡ offered (with_scan scans.Closing s.page) (taken acts.Nothing)
+unfolding offer
+closing_offered None going head s word marks at = ap (λ (sc : Scan). offer_at sc (code "\"") s.page) at.scan_is
+closing_offered (Some reached) going head s word marks at = ap (λ (sc : Scan). offer_at sc (code "\"") s.page) at.scan_is
 
 then_quote : (reached : Option Reached) (head : Manner) (whole : Bool) (s : State) (bs marks all : List ℕ) (first hyphen : Bool)
     → Read head true whole s (in_named reached true) bs marks all first hyphen → Read head true whole s scans.Closing (bs ++ codes "\"") marks all first hyphen
@@ -201,7 +201,7 @@ then_quote reached head whole s bs marks all first hyphen r =
     let p = r.next.page in
     let q = with_scan scans.Closing p in
     then_scan head true whole s (with_page q r.next) (in_named reached true) scans.Closing (code "\"") bs marks all first hyphen r
-    (takes_by (code "\"") r.next q q acts.Nothing acts.Nothing acts.Nothing [] (closing_met reached r.going head r.next r.word r.held r.at) refl refl)
+    (takes_by (code "\"") r.next q q acts.Nothing acts.Nothing acts.Nothing [] (closing_offered reached r.going head r.next r.word r.held r.at) refl refl)
     (in_as r.going head r.next q (in_named reached true) scans.Closing r.word r.word r.held r.at refl r.at.word_is refl refl refl refl refl refl refl)
     (same_whole p q refl refl)
 
@@ -210,9 +210,9 @@ then_quote reached head whole s bs marks all first hyphen r =
 -- an escape
 then_escape : (b : ℕ) (reached : Option Reached) (head : Manner) (quoted whole : Bool) (s : State) (bs marks all : List ℕ) (first hyphen : Bool)
     → Read head quoted whole s (in_named reached quoted) bs marks all first hyphen → is_letter quoted (Escape b) ≡ true
-    → Read head quoted whole s (in_named (reached_behind reached (Escape b)) quoted) (bs ++ bytes_of quoted (Escape b)) marks (all ++ code "\\" ∷ b ∷ []) false (b == code "-")
+    → Read head quoted whole s (in_named (reached_after reached (Escape b)) quoted) (bs ++ bytes_of quoted (Escape b)) marks (all ++ code "\\" ∷ b ∷ []) false (b == code "-")
 then_escape b reached head quoted whole s bs marks all first hyphen r h =
-    let here = in_named (reached_behind reached (Escape b)) quoted in
+    let here = in_named (reached_after reached (Escape b)) quoted in
     let slash = then_slash reached head quoted whole s bs marks all first hyphen r in
     let piece = code "\\" ∷ b ∷ [] in
     read_as head quoted whole s here ((bs ++ codes "\\") ++ b ∷ []) (bs ++ piece) marks (all ++ piece) (all ++ piece) false (b == code "-")
@@ -237,37 +237,37 @@ then_two reached head whole s bs marks all first hyphen r =
 plain_bytes : Bool → ℕ → List ℕ
 plain_bytes t b = if t then codes "\"\"" else b ∷ []
 
-two_behind : (reached : Option Reached) (behind : Bool) (head : Manner) (whole : Bool) (s : State) (bs marks all : List ℕ)
-    → Read head true whole s (in_named reached true) bs marks all false behind
-    → Read head true whole s (in_named (reached_behind reached (Plain (code "\""))) true) (bs ++ codes "\"\"") marks
-    (all ++ kept_letter head.way whole reached behind (Plain (code "\""))) false false
-two_behind None behind head whole s bs marks all r = then_two None head whole s bs marks all false behind r
-two_behind (Some reached) behind head whole s bs marks all r = then_two (Some reached) head whole s bs marks all false behind r
+two_after : (reached : Option Reached) (following : Bool) (head : Manner) (whole : Bool) (s : State) (bs marks all : List ℕ)
+    → Read head true whole s (in_named reached true) bs marks all false following
+    → Read head true whole s (in_named (reached_after reached (Plain (code "\""))) true) (bs ++ codes "\"\"") marks
+    (all ++ kept_letter head.way whole reached following (Plain (code "\""))) false false
+two_after None following head whole s bs marks all r = then_two None head whole s bs marks all false following r
+two_after (Some reached) following head whole s bs marks all r = then_two (Some reached) head whole s bs marks all false following r
 
-behind_by : (t : Bool) (b : ℕ) (reached : Option Reached) (behind : Bool) (head : Manner) (quoted whole : Bool) (s : State) (bs marks all : List ℕ)
-    → Read head quoted whole s (in_named reached quoted) bs marks all false behind → is_letter quoted (Plain b) ≡ true → (quoted && (b == code "\"")) ≡ t
-    → Read head quoted whole s (in_named (reached_behind reached (Plain b)) quoted) (bs ++ plain_bytes t b) marks
-    (all ++ kept_letter head.way whole reached behind (Plain b)) false (b == code "-")
+after_by : (t : Bool) (b : ℕ) (reached : Option Reached) (following : Bool) (head : Manner) (quoted whole : Bool) (s : State) (bs marks all : List ℕ)
+    → Read head quoted whole s (in_named reached quoted) bs marks all false following → is_letter quoted (Plain b) ≡ true → (quoted && (b == code "\"")) ≡ t
+    → Read head quoted whole s (in_named (reached_after reached (Plain b)) quoted) (bs ++ plain_bytes t b) marks
+    (all ++ kept_letter head.way whole reached following (Plain b)) false (b == code "-")
 unfolding plain_bytes
-behind_by true b reached behind head true whole s bs marks all r h e =
-    subst (λ (k : ℕ). Read head true whole s (in_named (reached_behind reached (Plain k)) true) (bs ++ codes "\"\"") marks
-    (all ++ kept_letter head.way whole reached behind (Plain k)) false (k == code "-"))
-    (same_byte b (code "\"") e) (two_behind reached behind head whole s bs marks all r)
-behind_by true b reached behind head false whole s bs marks all r h e = absurd (let no : false ≡ true = e in cc)
-behind_by false b reached behind head quoted whole s bs marks all r h e =
-    then_byte head quoted whole s (in_named reached quoted) (in_named (reached_behind reached (Plain b)) quoted) b bs marks all
-    (kept_letter head.way whole reached behind (Plain b)) false behind (b == code "-") r
-    (grown_behind reached behind quoted r.going whole head b r.next r.word r.held r.at r.clear r.together h e r.is_first r.is_hyphen)
-    (letter_some head.way whole reached behind (Plain b)) (λ w. letter_last head.way whole reached behind (Plain b) w)
+after_by true b reached following head true whole s bs marks all r h e =
+    subst (λ (k : ℕ). Read head true whole s (in_named (reached_after reached (Plain k)) true) (bs ++ codes "\"\"") marks
+    (all ++ kept_letter head.way whole reached following (Plain k)) false (k == code "-"))
+    (same_byte b (code "\"") e) (two_after reached following head whole s bs marks all r)
+after_by true b reached following head false whole s bs marks all r h e = absurd (let no : false ≡ true = e in cc)
+after_by false b reached following head quoted whole s bs marks all r h e =
+    then_byte head quoted whole s (in_named reached quoted) (in_named (reached_after reached (Plain b)) quoted) b bs marks all
+    (kept_letter head.way whole reached following (Plain b)) false following (b == code "-") r
+    (grown_following reached following quoted r.going whole head b r.next r.word r.held r.at r.clear r.together h e r.is_first r.is_hyphen)
+    (letter_some head.way whole reached following (Plain b)) (λ w. letter_last head.way whole reached following (Plain b) w)
 
-letter_behind : (l : Letter) (reached : Option Reached) (behind : Bool) (head : Manner) (quoted whole : Bool) (s : State) (bs marks all : List ℕ)
-    → Read head quoted whole s (in_named reached quoted) bs marks all false behind → is_letter quoted l ≡ true
-    → Read head quoted whole s (in_named (reached_behind reached l) quoted) (bs ++ bytes_of quoted l) marks
-    (all ++ kept_letter head.way whole reached behind l) false (is_hyphen l)
+letter_after : (l : Letter) (reached : Option Reached) (following : Bool) (head : Manner) (quoted whole : Bool) (s : State) (bs marks all : List ℕ)
+    → Read head quoted whole s (in_named reached quoted) bs marks all false following → is_letter quoted l ≡ true
+    → Read head quoted whole s (in_named (reached_after reached l) quoted) (bs ++ bytes_of quoted l) marks
+    (all ++ kept_letter head.way whole reached following l) false (is_hyphen l)
 unfolding plain_bytes
-letter_behind (Plain b) reached behind head quoted whole s bs marks all r h =
-    behind_by (quoted && (b == code "\"")) b reached behind head quoted whole s bs marks all r h refl
-letter_behind (Escape b) reached behind head quoted whole s bs marks all r h = then_escape b reached head quoted whole s bs marks all false behind r h
+letter_after (Plain b) reached following head quoted whole s bs marks all r h =
+    after_by (quoted && (b == code "\"")) b reached following head quoted whole s bs marks all r h refl
+letter_after (Escape b) reached following head quoted whole s bs marks all r h = then_escape b reached head quoted whole s bs marks all false following r h
 
 first_plain : (t : Bool) (b : ℕ) (hyphen : Bool) (head : Manner) (quoted whole : Bool) (s : State) (bs marks all : List ℕ)
     → Read head quoted whole s (in_word_of quoted) bs marks all true hyphen → is_letter quoted (Plain b) ≡ true → (quoted && (b == code "\"")) ≡ t
@@ -284,7 +284,7 @@ first_plain false b hyphen head quoted whole s bs marks all r h e =
 
 letter_first : (l : Letter) (hyphen : Bool) (head : Manner) (quoted whole : Bool) (s : State) (bs marks all : List ℕ)
     → Read head quoted whole s (in_word_of quoted) bs marks all true hyphen → is_letter quoted l ≡ true
-    → Read head quoted whole s (in_named (reached_behind None l) quoted) (bs ++ bytes_of quoted l) marks (all ++ kept_first whole l) false (is_hyphen l)
+    → Read head quoted whole s (in_named (reached_after None l) quoted) (bs ++ bytes_of quoted l) marks (all ++ kept_first whole l) false (is_hyphen l)
 unfolding plain_bytes
 letter_first (Plain b) hyphen head quoted whole s bs marks all r h = first_plain (quoted && (b == code "\"")) b hyphen head quoted whole s bs marks all r h refl
 letter_first (Escape b) hyphen head quoted whole s bs marks all r h = then_escape b None head quoted whole s bs marks all true hyphen r h
@@ -312,35 +312,35 @@ lettered_as : (head : Manner) (quoted whole : Bool) (s : State) (bs bs2 marks al
 lettered_as head quoted whole s bs bs2 marks all all2 e f w =
     record { reached = w.reached; spelled = spelled_as head quoted whole s (in_named w.reached quoted) bs bs2 marks all all2 e f w.spelled }
 
-letters_behind : (ls : List Letter) (reached : Option Reached) (behind : Bool) (head : Manner) (quoted whole : Bool) (s : State) (bs marks all : List ℕ)
-    → Read head quoted whole s (in_named reached quoted) bs marks all false behind → are_letters quoted ls ≡ true
-    → Lettered head quoted whole s (bs ++ written quoted ls) marks (all ++ kept_in head.way whole reached behind ls)
-letters_behind [] reached behind head quoted whole s bs marks all r h = record {
+letters_after : (ls : List Letter) (reached : Option Reached) (following : Bool) (head : Manner) (quoted whole : Bool) (s : State) (bs marks all : List ℕ)
+    → Read head quoted whole s (in_named reached quoted) bs marks all false following → are_letters quoted ls ≡ true
+    → Lettered head quoted whole s (bs ++ written quoted ls) marks (all ++ kept_in head.way whole reached following ls)
+letters_after [] reached following head quoted whole s bs marks all r h = record {
   reached = reached;
   spelled = record {
     first = false;
-    hyphen = behind;
-    read = read_as head quoted whole s (in_named reached quoted) bs (bs ++ []) marks all (all ++ []) false behind (sym (append-nil bs)) (sym (append-nil all)) r;
+    hyphen = following;
+    read = read_as head quoted whole s (in_named reached quoted) bs (bs ++ []) marks all (all ++ []) false following (sym (append-nil bs)) (sym (append-nil all)) r;
   };
 }
-letters_behind (l ∷ ls) reached behind head quoted whole s bs marks all r h =
+letters_after (l ∷ ls) reached following head quoted whole s bs marks all r h =
     let bytes = bytes_of quoted l in
-    let piece = kept_letter head.way whole reached behind l in
-    let later = kept_in head.way whole (reached_behind reached l) (is_hyphen l) ls in
-    let one = letter_behind l reached behind head quoted whole s bs marks all r (and_left (is_letter quoted l) (are_letters quoted ls) h) in
+    let piece = kept_letter head.way whole reached following l in
+    let later = kept_in head.way whole (reached_after reached l) (is_hyphen l) ls in
+    let one = letter_after l reached following head quoted whole s bs marks all r (and_left (is_letter quoted l) (are_letters quoted ls) h) in
     lettered_as head quoted whole s ((bs ++ bytes) ++ written quoted ls) (bs ++ (bytes ++ written quoted ls)) marks ((all ++ piece) ++ later) (all ++ (piece ++ later))
     (append_assoc bs bytes (written quoted ls)) (append_assoc all piece later)
-    (letters_behind ls (reached_behind reached l) (is_hyphen l) head quoted whole s (bs ++ bytes) marks (all ++ piece) one
+    (letters_after ls (reached_after reached l) (is_hyphen l) head quoted whole s (bs ++ bytes) marks (all ++ piece) one
     (and_right (is_letter quoted l) (are_letters quoted ls) h))
 
 -- ---- a word begins
 
-unfoldable pub between_by : Bool → Bool → Bool → Bool → Bool → Page → Met
+unfoldable pub between_by : Bool → Bool → Bool → Bool → Bool → Page → Offered
 between_by comment blank tab newline quote p =
-    if comment then met (with_scan scans.Dropped p) (left acts.Nothing) else
-    if blank then met p (taken acts.Nothing) else
-    if tab then met p (taken acts.Cell) else
-    if newline then met (with_scan scans.Ends p) (left acts.Nothing) else
+    if comment then offered (with_scan scans.Dropped p) (left acts.Nothing) else
+    if blank then offered p (taken acts.Nothing) else
+    if tab then offered p (taken acts.Cell) else
+    if newline then offered (with_scan scans.Ends p) (left acts.Nothing) else
     if quote then word_begins scans.Quoted (taken acts.Nothing) p else word_begins scans.Word (left acts.Nothing) p
 
 between_is : (b : ℕ) (p : Page)
@@ -348,11 +348,11 @@ between_is : (b : ℕ) (p : Page)
 unfolding between_by
 between_is b p = refl
 
-pub between_met : (head : Manner) (b : ℕ) (s : State) (word marks : List ℕ) → In false head s scans.Between word marks
-    → meet b s.page ≡ between_by false (b == code " ") (b == code "\t") (b == code "\n") (b == code "\"") s.page
-unfolding meet
-between_met head b s word marks at =
-    ap (λ (sc : Scan). meet_at sc b s.page) at.scan_is ∙ between_is b s.page
+pub between_offered : (head : Manner) (b : ℕ) (s : State) (word marks : List ℕ) → In false head s scans.Between word marks
+    → offer b s.page ≡ between_by false (b == code " ") (b == code "\t") (b == code "\n") (b == code "\"") s.page
+unfolding offer
+between_offered head b s word marks at =
+    ap (λ (sc : Scan). offer_at sc b s.page) at.scan_is ∙ between_is b s.page
     ∙ ap (λ (t : Bool). between_by t (b == code " ") (b == code "\t") (b == code "\n") (b == code "\"") s.page) at.comment
 
 pub not_of : (t : Bool) → t ≡ false → not t ≡ true
@@ -370,7 +370,7 @@ begun_leads head b s word marks at no_end quote =
     let other = not_of (ends_word b) no_end in
     let no_blank = not_of blank_or (or_left blank_or (b == code "\n") other) in
     leads_by b s (begun false p) (begun false p) acts.Nothing acts.Nothing acts.Nothing []
-    (between_met head b s word marks at
+    (between_offered head b s word marks at
     ∙ ap (λ (t : Bool). between_by false t (b == code "\t") (b == code "\n") (b == code "\"") p) (or_left (b == code " ") (b == code "\t") no_blank)
     ∙ ap (λ (t : Bool). between_by false false t (b == code "\n") (b == code "\"") p) (or_right (b == code " ") (b == code "\t") no_blank)
     ∙ ap (λ (t : Bool). between_by false false false t (b == code "\"") p) (or_right blank_or (b == code "\n") other)
@@ -411,7 +411,7 @@ seven k l = omega arith
 
 -- the first letter, not between quotes
 bare_first : (l : Letter) (head : Manner) (s : State) (word marks : List ℕ) → In false head s scans.Between word marks → is_letter false l ≡ true
-    → Read head false false s (in_named (reached_behind None l) false) (bytes_of false l) marks (kept_first false l) false (is_hyphen l)
+    → Read head false false s (in_named (reached_after None l) false) (bytes_of false l) marks (kept_first false l) false (is_hyphen l)
 unfolding begun said lay_out
 bare_first (Plain b) head s word marks at h =
     let t = with_page (begun false s.page) s in
@@ -446,18 +446,18 @@ bare_first (Escape b) head s word marks at h =
     let inner = begun_at false head s word marks at in
     let q = with_scan scans.Escape t.page in
     let piece = slash ∷ b ∷ [] in
-    let taken_slash = takes_by slash t q q acts.Nothing acts.Nothing acts.Nothing [] (slash_met false None false head t [] marks inner) refl refl in
+    let taken_slash = takes_by slash t q q acts.Nothing acts.Nothing acts.Nothing [] (slash_offered false None false head t [] marks inner) refl refl in
     let start = opened head false false s (with_page q t) (1 + 1) scans.Escape slash marks (omega arith)
     (then_takes slash s t (with_page q t) 1 1 [] [] (begun_leads head slash s word marks at refl refl) taken_slash)
     (in_as false head t q scans.Word scans.Escape [] [] marks inner refl refl refl refl refl refl refl refl refl) refl in
-    then_byte head false false s scans.Escape (in_named (reached_behind None (Escape b)) false) b (slash ∷ []) marks [] piece true false (b == code "-") start
+    then_byte head false false s scans.Escape (in_named (reached_after None (Escape b)) false) b (slash ∷ []) marks [] piece true false (b == code "-") start
     (grown_escaped false start.going head b start.next start.word start.held start.at start.clear h) refl
     (λ w. letter_last head.way false None false (Escape b) w)
 
 pub read_bare : (l : Letter) (ls : List Letter) (head : Manner) (s : State) (word marks : List ℕ) → In false head s scans.Between word marks
     → are_letters false (l ∷ ls) ≡ true → Lettered head false false s (written false (l ∷ ls)) marks (kept head.way false (l ∷ ls))
 read_bare l ls head s word marks at h =
-    letters_behind ls (reached_behind None l) (is_hyphen l) head false false s (bytes_of false l) marks (kept_first false l)
+    letters_after ls (reached_after None l) (is_hyphen l) head false false s (bytes_of false l) marks (kept_first false l)
     (bare_first l head s word marks at (and_left (is_letter false l) (are_letters false ls) h)) (and_right (is_letter false l) (are_letters false ls) h)
 
 -- ---- a word between quotes
@@ -465,14 +465,14 @@ read_bare l ls head s word marks at h =
 begun_takes : (head : Manner) (s : State) (word marks : List ℕ) → In false head s scans.Between word marks → Takes (code "\"") s (with_page (begun true s.page) s) 1 []
 unfolding between_by begun said lay_out
 begun_takes head s word marks at =
-    takes_by (code "\"") s (begun true s.page) (begun true s.page) acts.Nothing acts.Nothing acts.Nothing [] (between_met head (code "\"") s word marks at) refl refl
+    takes_by (code "\"") s (begun true s.page) (begun true s.page) acts.Nothing acts.Nothing acts.Nothing [] (between_offered head (code "\"") s word marks at) refl refl
 
 letters_quoted : (ls : List Letter) (head : Manner) (whole : Bool) (s : State) (marks : List ℕ) → Read head true whole s scans.Quoted (codes "\"") marks [] true false
     → are_letters true ls ≡ true → Lettered head true whole s (code "\"" ∷ written true ls) marks (kept head.way whole ls)
 letters_quoted [] head whole s marks r h = record { reached = None; spelled = record { first = true; hyphen = false; read = r } }
 letters_quoted (l ∷ ls) head whole s marks r h =
     let bytes = bytes_of true l in
-    letters_behind ls (reached_behind None l) (is_hyphen l) head true whole s (code "\"" ∷ bytes) marks (kept_first whole l)
+    letters_after ls (reached_after None l) (is_hyphen l) head true whole s (code "\"" ∷ bytes) marks (kept_first whole l)
     (letter_first l false head true whole s (codes "\"") marks [] r (and_left (is_letter true l) (are_letters true ls) h))
     (and_right (is_letter true l) (are_letters true ls) h)
 

@@ -4,7 +4,7 @@ use Rattle.std.proofs.lemmas.List.{length-take}
 use Rattle.document_stages.specs.Running.{at_most}
 use Rattle.document_stages.proofs.Runs.{at_most-more}
 use Rattle.mdoc_converter.specs.AtHand.{Passes}
-use Rattle.mdoc_converter.specs.Reading.{State, Told, fed, finished}
+use Rattle.mdoc_converter.specs.Reading.{State, Emitted, fed, finished}
 use Rattle.mdoc_converter.specs.Staged.{counted, said, steps_said}
 use Rattle.mdoc_converter.proofs.Reading.{add_assoc, fed-append_state, fed-append_bytes, fed-append_steps}
 
@@ -26,8 +26,8 @@ said-taken s t xs waits items is out ends ys =
 pub said-passing : (s : State) (xs waits items : List ℕ) → Passes s xs → items ≡ waits ++ xs
     → (ends : Bool) → (ys : List ℕ) → waits ++ said s ends (xs ++ ys) ≡ items ++ said s ends ys
 said-passing s xs waits items passes out =
-    said-taken s s xs waits items (sym (ap (λ (x : Told). x.state) passes))
-    (out ∙ sym (ap (λ (x : Told). waits ++ x.bytes) passes))
+    said-taken s s xs waits items (sym (ap (λ (x : Emitted). x.state) passes))
+    (out ∙ sym (ap (λ (x : Emitted). waits ++ x.bytes) passes))
 
 steps-parts : (s : State) (ends : Bool) (xs ys : List ℕ) → steps_said s ends (xs ++ ys) ≡ (fed s xs).steps + steps_said (fed s xs).state ends ys
 steps-parts s true xs ys =
@@ -49,7 +49,7 @@ pub counted-passing : (n n' k : ℕ) (s : State) (bytes : List ℕ) → k ≤ le
     → (ends : Bool) → (ys : List ℕ) → counted n s ends (take k bytes ++ ys) ≡ counted n' s ends ys
 counted-passing n n' k s bytes within passes all =
     let count : k ≡ length (take k bytes) = (let cut = length-take k bytes in omega (arith, cut, within)) in
-    counted-taken n n' k s s (take k bytes) (sym (ap (λ (x : Told). x.state) passes)) (count ∙ sym (ap (λ (x : Told). x.steps) passes)) all
+    counted-taken n n' k s s (take k bytes) (sym (ap (λ (x : Emitted). x.state) passes)) (count ∙ sym (ap (λ (x : Emitted). x.steps) passes)) all
 
 pub counted-ended : (n n' k : ℕ) (s t : State) → k ≡ (finished s).steps → n' ≡ at_most (n + k) → counted n s true [] ≡ counted n' t false []
 counted-ended n n' k s t steps all = omega (arith, steps, all)

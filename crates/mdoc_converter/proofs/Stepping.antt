@@ -1,17 +1,17 @@
--- One meeting where a line of a macro is read: what is said, and how it is read further.
+-- One step where a line of a macro is read: what is said, and how it is read further.
 use Rattle.std.proofs.Common.{◌≡◌, ℕ, ◌≤◌, List, [], ◌++◌, length, Bool, true, false, refl, sym, ◌∙◌, ap, subst, append-nil}
 use Rattle.mdoc_converter.specs.declared.acts.Act.TheVariants as acts
 use Rattle.mdoc_converter.specs.declared.page.Lay.{Lay}
 use Rattle.mdoc_converter.specs.declared.page.Page.{Page}
 use Rattle.mdoc_converter.specs.declared.page.Scan.{Scan}
-use Rattle.mdoc_converter.specs.Calls.{due, is_due, is_enclosure_due, leaves, takes_no_more}
+use Rattle.mdoc_converter.specs.Calls.{pending, is_pending, is_enclosure_pending, leaves, takes_no_more}
 use Rattle.mdoc_converter.specs.Laying.{with_lay, was_put, without_marks}
 use Rattle.mdoc_converter.specs.LayingOut.{lay_out}
 use Rattle.mdoc_converter.specs.Reading.{State, said}
-use Rattle.mdoc_converter.specs.Scanning.{meet}
-use Rattle.mdoc_converter.specs.Seeing.{Met, met, left, three}
+use Rattle.mdoc_converter.specs.Scanning.{offer}
+use Rattle.mdoc_converter.specs.Seeing.{Offered, offered, left, three}
 use Rattle.mdoc_converter.specs.WrittenLines.{Way, Usual, way_of}
-use Rattle.mdoc_converter.proofs.Meeting.{with_page, Leads, leads_by}
+use Rattle.mdoc_converter.proofs.Offering.{with_page, Leads, leads_by}
 use Rattle.mdoc_converter.proofs.Outcomes.{of_word, never, Lined, line_in, Lays, three-page, three-words, takes_as, Out, leaves_out}
 
 -- ---- where a line of a macro is read
@@ -64,33 +64,33 @@ in_as going head s p scan scan2 word word2 marks at a b c d e f g h i = record {
   free = λ k. at.free (sym i ∙ k);
 }
 
--- in so many meetings it is read further so, and these bytes of words are said
+-- in so many steps it is read further so, and these bytes of words are said
 pub record Stepped (m : Head) (b : ℕ) (s : State) (k : ℕ) (xs : List ℕ) (scan : Scan) (word marks : List ℕ) : Type 0 where
   pub next : State
   pub leads : Leads b s next k xs
   pub at : At m next scan word marks
 
--- ---- one meeting
+-- ---- one step
 
-pub out_words : (m : Met) (q : Page) (xs : List ℕ) (o : Out m q xs)
+pub out_words : (m : Offered) (q : Page) (xs : List ℕ) (o : Out m q xs)
     → of_word o.x m.page.word ++ (of_word o.y m.page.word ++ (of_word o.z m.page.word ++ [])) ≡ xs
 out_words m q xs o =
     ap (λ (w : List ℕ). of_word o.x w ++ (of_word o.y w ++ (of_word o.z w ++ []))) o.keeps.word ∙ o.words
 
-pub out_lays : (m : Met) (q : Page) (xs : List ℕ) (o : Out m q xs) → Lays m.page (said (three o.x o.y o.z) m.page).page
+pub out_lays : (m : Offered) (q : Page) (xs : List ℕ) (o : Out m q xs) → Lays m.page (said (three o.x o.y o.z) m.page).page
 out_lays m q xs o = three-page o.x o.y o.z m.page o.quiet_x o.quiet_y o.quiet_z
 
-unfoldable pub out_next : (m : Met) (q : Page) (xs : List ℕ) → Out m q xs → State → State
+unfoldable pub out_next : (m : Offered) (q : Page) (xs : List ℕ) → Out m q xs → State → State
 out_next m q xs o s = with_page (with_lay (out_lays m q xs o).0 m.page) s
 
-pub out_leads : (b : ℕ) (s : State) (m : Met) (q : Page) (xs : List ℕ) (o : Out m q xs) → meet b s.page ≡ m → Leads b s (out_next m q xs o s) 1 xs
+pub out_leads : (b : ℕ) (s : State) (m : Offered) (q : Page) (xs : List ℕ) (o : Out m q xs) → offer b s.page ≡ m → Leads b s (out_next m q xs o s) 1 xs
 unfolding out_next
 out_leads b s m q xs o e =
-    leads_by b s m.page (with_lay (out_lays m q xs o).0 m.page) o.x o.y o.z xs (e ∙ ap (met m.page) o.seen) (out_lays m q xs o).1
+    leads_by b s m.page (with_lay (out_lays m q xs o).0 m.page) o.x o.y o.z xs (e ∙ ap (offered m.page) o.seen) (out_lays m q xs o).1
     (three-words o.x o.y o.z m.page o.quiet_x o.quiet_y o.quiet_z ∙ out_words m q xs o)
 
 -- where a word is read then, or the line is read between words
-pub out_in : (going : Bool) (head : Head) (s : State) (m : Met) (q : Page) (xs marks : List ℕ) (o : Out m q xs)
+pub out_in : (going : Bool) (head : Head) (s : State) (m : Offered) (q : Page) (xs marks : List ℕ) (o : Out m q xs)
     → q.marks ≡ marks → length q.closers ≤ 8 → q.call.going ≡ going → q.call.comment ≡ false → line_in q ≡ head.line → way_of q.call.taker ≡ head.way
     → (m.page.call.some ≡ false → marks ≡ []) → In going (plainly head) (out_next m q xs o s) q.scan q.word marks
 unfolding out_next
@@ -108,7 +108,7 @@ out_in going head s m q xs marks o marks_are few going_is comment line_is way_is
 }
 
 -- by what is said, with a page before it
-unfoldable pub out_step : (head : Head) (b : ℕ) (s : State) (m : Met) (q : Page) (xs marks : List ℕ) → meet b s.page ≡ m → Out m q xs
+unfoldable pub out_step : (head : Head) (b : ℕ) (s : State) (m : Offered) (q : Page) (xs marks : List ℕ) → offer b s.page ≡ m → Out m q xs
     → q.marks ≡ marks → length q.closers ≤ 8 → q.call.going ≡ false → q.call.comment ≡ false → line_in q ≡ head.line → way_of q.call.taker ≡ head.way
     → (m.page.call.some ≡ false → marks ≡ []) → Stepped head b s 1 xs q.scan q.word marks
 out_step head b s m q xs marks e o marks_are few going comment line_is way_is free = record {
@@ -117,24 +117,24 @@ out_step head b s m q xs marks e o marks_are few going comment line_is way_is fr
   at = out_in false head s m q xs marks o marks_are few going comment line_is way_is free;
 }
 
--- what was due was said: no macro takes words then
+-- what was pending was said: no macro takes words then
 pub record Left (m : Head) (b : ℕ) (s : State) (scan : Scan) (word marks : List ℕ) : Type 0 where
   pub step : Stepped m b s 1 [] scan word marks
-  pub not_due : is_due step.next.page ≡ false
-  pub no_enclosure : is_enclosure_due step.next.page ≡ false
+  pub not_pending : is_pending step.next.page ≡ false
+  pub no_enclosure : is_enclosure_pending step.next.page ≡ false
   pub some : step.next.page.call.some ≡ true
 
-no_more_due : (l : Lay) (p : Page) → is_due (with_lay l (takes_no_more p)) ≡ false
-no_more_due l p = refl
+no_more_pending : (l : Lay) (p : Page) → is_pending (with_lay l (takes_no_more p)) ≡ false
+no_more_pending l p = refl
 
-none_enclosed : (l : Lay) (p : Page) → is_enclosure_due (with_lay l (takes_no_more p)) ≡ false
+none_enclosed : (l : Lay) (p : Page) → is_enclosure_pending (with_lay l (takes_no_more p)) ≡ false
 none_enclosed l p = refl
 
-pub no_more_enclosed : (l : Lay) (p : Page) → is_enclosure_due (with_lay l (leaves p).page) ≡ false
+pub no_more_enclosed : (l : Lay) (p : Page) → is_enclosure_pending (with_lay l (leaves p).page) ≡ false
 unfolding leaves
 no_more_enclosed l p = refl
 
-leaves_page : (p : Page) → (leaves p).page ≡ takes_no_more (due p).page
+leaves_page : (p : Page) → (leaves p).page ≡ takes_no_more (pending p).page
 unfolding leaves
 leaves_page p = refl
 
@@ -161,8 +161,8 @@ step_at m b s k xs scan scan2 word word2 marks p q step = record {
 }
 
 -- no more is taken
-pub no_more_step : (head : Head) (b : ℕ) (s : State) (m : Met) (q : Page) (scan : Scan) (word marks : List ℕ) → At head s scan word marks
-    → meet b s.page ≡ m → Out m s.page [] → m.page ≡ takes_no_more q → Left head b s scan word marks
+pub no_more_step : (head : Head) (b : ℕ) (s : State) (m : Offered) (q : Page) (scan : Scan) (word marks : List ℕ) → At head s scan word marks
+    → offer b s.page ≡ m → Out m s.page [] → m.page ≡ takes_no_more q → Left head b s scan word marks
 unfolding out_next step_at out_step
 no_more_step head b s m q scan word marks at e o same =
     let l = (out_lays m s.page [] o).0 in
@@ -172,23 +172,23 @@ no_more_step head b s m q scan word marks at e o same =
           step_at head b s 1 [] s.page.scan scan s.page.word word marks at.scan_is at.word_is
           (out_step head b s m s.page [] marks e o at.marks_are at.few at.going at.comment at.line at.way
           (λ h. true_is_false m.page.call.some then_some h));
-      not_due = ap (λ (p : Page). is_due (with_lay l p)) same ∙ no_more_due l q;
-      no_enclosure = ap (λ (p : Page). is_enclosure_due (with_lay l p)) same ∙ none_enclosed l q;
+      not_pending = ap (λ (p : Page). is_pending (with_lay l p)) same ∙ no_more_pending l q;
+      no_enclosure = ap (λ (p : Page). is_enclosure_pending (with_lay l p)) same ∙ none_enclosed l q;
       some = then_some;
     }
 
-pub left_step : (head : Head) (b : ℕ) (s : State) (m : Met) (scan : Scan) (word marks : List ℕ) → At head s scan word marks
-    → meet b s.page ≡ m → Out m s.page [] → m.page ≡ (leaves s.page).page → Left head b s scan word marks
+pub left_step : (head : Head) (b : ℕ) (s : State) (m : Offered) (scan : Scan) (word marks : List ℕ) → At head s scan word marks
+    → offer b s.page ≡ m → Out m s.page [] → m.page ≡ (leaves s.page).page → Left head b s scan word marks
 left_step head b s m scan word marks at e o same =
-    no_more_step head b s m (due s.page).page scan word marks at e o (same ∙ leaves_page s.page)
+    no_more_step head b s m (pending s.page).page scan word marks at e o (same ∙ leaves_page s.page)
 
 pub leaves_step : (head : Head) (b : ℕ) (s : State) (scan : Scan) (word marks : List ℕ) → At head s scan word marks
-    → way_of s.page.call.taker ≡ Usual → meet b s.page ≡ leaves s.page → Left head b s scan word marks
+    → way_of s.page.call.taker ≡ Usual → offer b s.page ≡ leaves s.page → Left head b s scan word marks
 leaves_step head b s scan word marks at u e = left_step head b s (leaves s.page) scan word marks at e (leaves_out s.page at.fits u) refl
 
 -- marks that were held back are said
 unfoldable pub marks_step : (head : Head) (b : ℕ) (s : State) (scan : Scan) (word marks : List ℕ) → At head s scan word marks
-    → meet b s.page ≡ met s.page (left acts.Marks) → Stepped head b s 1 marks scan word []
+    → offer b s.page ≡ offered s.page (left acts.Marks) → Stepped head b s 1 marks scan word []
 unfolding said lay_out
 marks_step head b s scan word marks at e = record {
   next = with_page (without_marks (was_put s.page)) s;

@@ -8,11 +8,11 @@ use Rattle.mdoc_converter.specs.declared.strings.Next.{Next}
 use Rattle.mdoc_converter.specs.declared.strings.Next.TheVariants as nexts
 use Rattle.mdoc_converter.specs.declared.pending.Pending.{Pending}
 use Rattle.mdoc_converter.specs.declared.pending.Pending.TheVariants as pendings
-use Rattle.mdoc_converter.specs.Reading.{State, Told, Once, told, once, then_told, heard_in, heard, heard_some, heard_text, heard_star, heard_raw, read_by, read, with_pending, fed, line_finished, finished_at, finished, first_state}
+use Rattle.mdoc_converter.specs.Reading.{State, Emitted, Once, emitted, once, then_emitted, heard_in, heard, heard_some, heard_text, heard_star, heard_raw, read_by, read, with_pending, fed, line_finished, finished_at, finished, first_state}
 use Rattle.mdoc_converter.specs.Staged.{steps_said}
-use Rattle.mdoc_converter.specs.Strings.{met_by, takes_strings}
+use Rattle.mdoc_converter.specs.Strings.{offered_by, takes_strings}
 
-once_more : (n : ℕ) (t : Bool) (o : State) (u : Told) → u.steps ≤ n → (if t then told o [] 0 else u).steps ≤ n
+once_more : (n : ℕ) (t : Bool) (o : State) (u : Emitted) → u.steps ≤ n → (if t then emitted o [] 0 else u).steps ≤ n
 once_more n true o u l = omega arith
 once_more n false o u l = l
 
@@ -21,7 +21,7 @@ heard_in-quick zero b s = omega arith
 heard_in-quick (suc n) b s =
     let o : Once = once b s in
     let rest : (heard_in n b o.state).steps ≤ n = heard_in-quick n b o.state in
-    let l : (if o.takes then told o.state [] 0 else heard_in n b o.state).steps ≤ n = once_more n o.takes o.state (heard_in n b o.state) rest in
+    let l : (if o.takes then emitted o.state [] 0 else heard_in n b o.state).steps ≤ n = once_more n o.takes o.state (heard_in n b o.state) rest in
     omega arith
 
 pub heard-quick : (b : ℕ) (s : State) → (heard b s).steps ≤ 16
@@ -31,7 +31,7 @@ heard-quick b s = heard_in-quick 16 b s
 none_quick : 0 ≤ 16
 none_quick = omega arith
 
-some_quick : (t : Bool) (b : ℕ) (s : State) → (if t then told s [] 0 else heard b s).steps ≤ 16
+some_quick : (t : Bool) (b : ℕ) (s : State) → (if t then emitted s [] 0 else heard b s).steps ≤ 16
 some_quick true b s = none_quick
 some_quick false b s = heard-quick b s
 
@@ -52,18 +52,18 @@ heard_text-quick a b c d s =
 heard_star-quick : (s : State) → (heard_star s).steps ≤ 32
 heard_star-quick s = let i = heard-quick (code "\\") s in let j = heard-quick (code "*") (heard (code "\\") s).state in omega arith
 
-star_then-quick : (a : ℕ) (s : State) → (then_told (heard_star s) (λ t. heard a t)).steps ≤ 48
+star_then-quick : (a : ℕ) (s : State) → (then_emitted (heard_star s) (λ t. heard a t)).steps ≤ 48
 star_then-quick a s = let i = heard_star-quick s in let j = heard-quick a (heard_star s).state in omega arith
 
-pair_then-quick : (a b : ℕ) (s : State) → (then_told (then_told (heard_star s) (λ t. heard a t)) (λ t. heard b t)).steps ≤ 64
+pair_then-quick : (a b : ℕ) (s : State) → (then_emitted (then_emitted (heard_star s) (λ t. heard a t)) (λ t. heard b t)).steps ≤ 64
 pair_then-quick a b s =
     let i = star_then-quick a s in
-    let j = heard-quick b (then_told (heard_star s) (λ t. heard a t)).state in omega arith
+    let j = heard-quick b (then_emitted (heard_star s) (λ t. heard a t)).state in omega arith
 
-two_then-quick : (a b d : ℕ) (s : State) → (then_told (then_told (then_told (heard_star s) (λ t. heard a t)) (λ t. heard b t)) (λ t. heard d t)).steps ≤ 80
+two_then-quick : (a b d : ℕ) (s : State) → (then_emitted (then_emitted (then_emitted (heard_star s) (λ t. heard a t)) (λ t. heard b t)) (λ t. heard d t)).steps ≤ 80
 two_then-quick a b d s =
     let i = pair_then-quick a b s in
-    let j = heard-quick d (then_told (then_told (heard_star s) (λ t. heard a t)) (λ t. heard b t)).state in omega arith
+    let j = heard-quick d (then_emitted (then_emitted (heard_star s) (λ t. heard a t)) (λ t. heard b t)).state in omega arith
 
 heard_raw-quick : (pending : Pending) (s : State) → (heard_raw pending s).steps ≤ 80
 heard_raw-quick pendings.Nothing s = omega arith
@@ -84,7 +84,7 @@ read_by-quick nexts.Breaks b s =
 
 pub read-quick : (b : ℕ) (s : State) → (read b s).steps ≤ 96
 unfolding read
-read-quick b s = read_by-quick (met_by s.pending b (takes_strings s.page.scan)) b s
+read-quick b s = read_by-quick (offered_by s.pending b (takes_strings s.page.scan)) b s
 
 fed_quick : (s : State) (bs : List ℕ) → (fed s bs).steps ≤ 96 * length bs
 fed_quick s [] = omega arith
@@ -98,7 +98,7 @@ unfolding line_finished
 line_finished-quick s = heard-quick (code "\n") s
 
 finished_at-quick : (scan : Scan) (s : State) → (finished_at scan s).steps ≤ 16
-finished_at-quick (scans.Asleep front lines) s = none_quick
+finished_at-quick (scans.Asleep prefix lines) s = none_quick
 finished_at-quick scans.Passes s = none_quick
 finished_at-quick scans.Start s = none_quick
 finished_at-quick (scans.Table rows.Start) s = none_quick

@@ -13,16 +13,16 @@ use Rattle.mdoc_converter.specs.declared.macros.Font.TheVariants.{Roman, Bold, I
 use Rattle.mdoc_converter.specs.declared.macros.Macro.{Macro}
 use Rattle.mdoc_converter.specs.declared.macros.Macro.TheVariants as macros
 use Rattle.mdoc_converter.specs.declared.macros.Pair.TheVariants as pairs
-use Rattle.mdoc_converter.specs.declared.page.Behind.{Behind}
-use Rattle.mdoc_converter.specs.declared.page.Behind.TheVariants as behinds
+use Rattle.mdoc_converter.specs.declared.page.Following.{Following}
+use Rattle.mdoc_converter.specs.declared.page.Following.TheVariants as followings
 use Rattle.mdoc_converter.specs.declared.page.Page.{Page}
 use Rattle.mdoc_converter.specs.declared.page.Parameters.TheVariants.{First, Further}
 use Rattle.mdoc_converter.specs.declared.page.Split.{Split}
 use Rattle.mdoc_converter.specs.declared.page.Split.TheVariants.{Never, Next, Always}
 use Rattle.mdoc_converter.specs.Calls.{with_call, with_place, is_nothing, is_none, heads_line, after_name, takes_no_more, called}
 use Rattle.mdoc_converter.specs.Macros.{part_font}
-use Rattle.mdoc_converter.specs.Seeing.{Met, met, three}
-use Rattle.mdoc_converter.specs.Taking.{author, author_line_by, named_author, splits, after_later, include, keeps_link, link, prefix, taken_by, taken_word, taken_alone_by, naming, named, named_under_condition, is_conditional, parameter, is_outside, is_first, is_listed, behind_first, listing, reference, function_begins, function}
+use Rattle.mdoc_converter.specs.Seeing.{Offered, offered, three}
+use Rattle.mdoc_converter.specs.Taking.{author, author_line_by, named_author, splits, after_later, include, keeps_link, link, prefix, taken_by, taken_word, taken_alone_by, naming, named, named_under_condition, is_conditional, parameter, is_outside, is_first, is_listed, after_first, listing, reference, function_begins, function}
 use Rattle.mdoc_converter.specs.Texts.{closer}
 use Rattle.mdoc_converter.specs.WrittenLines.{Authors, Usual, said_of, way_of}
 use Rattle.mdoc_converter.proofs.Outcomes.{is_quiet, of_word, never, takes_plain, Keeps, keeps_if, keeps_no_more, Out, out, out_if, out_seen_if, out_act_if, same_page, function_closes_out}
@@ -71,14 +71,14 @@ called_out m q f = out q q acts.Nothing acts.Nothing acts.Nothing [] refl refl r
 
 -- ---- macros that take a word
 
-pub said_in : (font : Font) (p q : Page) → Keeps q p → Out (met p (three (acts.Word font) acts.Nothing acts.Nothing)) q q.word
+pub said_in : (font : Font) (p q : Page) → Keeps q p → Out (offered p (three (acts.Word font) acts.Nothing acts.Nothing)) q q.word
 unfolding is_quiet of_word
 said_in font p q keeps = out p q (acts.Word font) acts.Nothing acts.Nothing q.word refl refl refl (append-nil q.word) keeps
 
-behind_act : (x : Act) (font : Font) (p q : Page) → is_quiet x ≡ true → of_word x q.word ≡ [] → Keeps q p
-    → Out (met p (three x (acts.Word font) acts.Nothing)) q q.word
+after_act : (x : Act) (font : Font) (p q : Page) → is_quiet x ≡ true → of_word x q.word ≡ [] → Keeps q p
+    → Out (offered p (three x (acts.Word font) acts.Nothing)) q q.word
 unfolding is_quiet of_word
-behind_act x font p q i e keeps =
+after_act x font p q i e keeps =
     out p q x (acts.Word font) acts.Nothing q.word i refl refl (ap (λ (xs : List ℕ). xs ++ (q.word ++ [])) e ∙ append-nil q.word) keeps
 
 name_kept : (q : Page) → takes_plain q.call.taker ≡ true → Keeps q (naming q)
@@ -105,9 +105,9 @@ named_out : (q : Page) → takes_plain q.call.taker ≡ true → Out (named q) q
 unfolding is_quiet of_word
 named_out q f =
     out_if (is_conditional q.place.section) _ _ q q.word
-    (behind_act acts.Naming Bold (named_under_condition q) q refl refl (conditional_kept q f))
+    (after_act acts.Naming Bold (named_under_condition q) q refl refl (conditional_kept q f))
     (out_if (heads_line (naming q)) _ _ q q.word
-    (behind_act (acts.Hanging _) Bold (after_name (naming q)) q refl refl (name_headed q (naming q) (name_kept q f)))
+    (after_act (acts.Hanging _) Bold (after_name (naming q)) q refl refl (name_headed q (naming q) (name_kept q f)))
     (said_in Bold (naming q) q (name_kept q f)))
 
 listing_kept : (q p : Page) → Keeps q p → Keeps q (listing p)
@@ -129,8 +129,8 @@ parameter_out q f =
     let first = keeps_if (is_first q.place.parameters) q (with_place (record q.place { parameters = Further }) q) q (assumption) (same_page q f) in
     out_if (is_outside q.place.parameters) _ _ q q.word (said_in Italic q q (same_page q f))
     (out_seen_if (is_listed q) _ _ _ q q.word
-    (behind_act (acts.Close texts.Comma) Italic (listing (behind_first q)) q refl refl (listing_kept q (behind_first q) first))
-    (said_in Italic (listing (behind_first q)) q (listing_kept q (behind_first q) first)))
+    (after_act (acts.Close texts.Comma) Italic (listing (after_first q)) q refl refl (listing_kept q (after_first q) first))
+    (said_in Italic (listing (after_first q)) q (listing_kept q (after_first q) first)))
 
 pub no_more : (q : Page) → takes_plain q.call.taker ≡ true → way_of q.call.taker ≡ Usual → Keeps q (takes_no_more q)
 no_more q f u = keeps_no_more q q u (same_page q f)
@@ -142,9 +142,9 @@ reference_out q f u =
     (out (takes_no_more q) q (acts.Close (texts.Opening pairs.Parentheses)) (acts.Joined Roman) (acts.Close (texts.Closing (code ")"))) q.word
     refl refl refl (append-nil q.word) (no_more q f u))
 
--- what stands behind a long word comes later
-after_kept : (behind : Behind) (q p : Page) → Keeps q p → Keeps q (after_later behind p)
-after_kept behind q p i = record {
+-- what stands after a long word comes later
+after_kept : (following : Following) (q p : Page) → Keeps q p → Keeps q (after_later following p)
+after_kept following q p i = record {
   scan = i.scan;
   word = i.word;
   marks = i.marks;
@@ -159,15 +159,15 @@ after_kept behind q p i = record {
 pub prefix_out : (q : Page) → takes_plain q.call.taker ≡ true → way_of q.call.taker ≡ Usual → Out (prefix q) q q.word
 unfolding is_quiet of_word
 prefix_out q f u =
-    out_if q.lay.front _ _ q q.word (said_in Roman _ q (after_kept behinds.Joint q (takes_no_more q) (no_more q f u)))
+    out_if q.lay.partial _ _ q q.word (said_in Roman _ q (after_kept followings.Joint q (takes_no_more q) (no_more q f u)))
     (out (takes_no_more q) q (acts.Word Roman) acts.Join acts.Nothing q.word refl refl refl (append-nil q.word) (no_more q f u))
 
 include_out : (q : Page) → takes_plain q.call.taker ≡ true → way_of q.call.taker ≡ Usual → Out (include q) q q.word
 unfolding is_quiet of_word
 include_out q f u =
-    out_if q.lay.front _ _ q q.word
+    out_if q.lay.partial _ _ q q.word
     (out _ q (acts.Text (texts.Opening pairs.Signs)) (acts.Joined Italic) acts.Nothing q.word refl refl refl (append-nil q.word)
-    (after_kept behinds.Angle q (takes_no_more q) (no_more q f u)))
+    (after_kept followings.Angle q (takes_no_more q) (no_more q f u)))
     (out (takes_no_more q) q (acts.Text (texts.Opening pairs.Signs)) (acts.Joined Italic) (acts.Close (texts.Closing (code ">"))) q.word
     refl refl refl (append-nil q.word) (no_more q f u))
 
@@ -176,8 +176,8 @@ unfolding is_quiet of_word takes_plain
 link_out q f u =
     out_if q.call.some _ _ q q.word
     (out_if q.call.listed _ _ q q.word (said_in Italic q q (same_page q f))
-    (behind_act acts.Fresh Italic (listing q) q refl refl (listing_kept q q (same_page q f))))
-    (out_if (keeps_link q) _ _ q q.word (behind_act (acts.Request requests.Link) Bold q q refl refl (same_page q f))
+    (after_act acts.Fresh Italic (listing q) q refl refl (listing_kept q q (same_page q f))))
+    (out_if (keeps_link q) _ _ q q.word (after_act (acts.Request requests.Link) Bold q q refl refl (same_page q f))
     (said_in Bold _ q (record {
       scan = refl;
       word = refl;
@@ -193,7 +193,7 @@ link_out q f u =
 function_begins_out : (p q : Page) → Keeps q p → Out (function_begins p) q q.word
 unfolding is_quiet of_word
 function_begins_out p q keeps =
-    out_if p.lay.front _ _ q q.word
+    out_if p.lay.partial _ _ q q.word
     (said_in Bold _ q (record {
       scan = keeps.scan;
       word = keeps.word;
@@ -212,7 +212,7 @@ unfolding is_quiet of_word
 function_out q f =
     out_if (not q.call.some) _ _ q q.word (function_begins_out q q (same_page q f))
     (out_if (not q.call.listed) _ _ q q.word (said_in Italic (listing q) q (listing_kept q q (same_page q f)))
-    (behind_act (acts.Close texts.Comma) Italic q q refl refl (same_page q f)))
+    (after_act (acts.Close texts.Comma) Italic q q refl refl (same_page q f)))
 
 -- no more is taken, and a function's parameters begin
 opens_kept : (q : Page) → takes_plain q.call.taker ≡ true → way_of q.call.taker ≡ Usual
@@ -263,7 +263,7 @@ split_kept split q f =
 
 author_line_out : (split : Split) (q : Page) → takes_plain q.call.taker ≡ true → Out (author_line_by split q) q q.word
 unfolding is_quiet of_word
-author_line_out Always q f = behind_act (acts.Request requests.Break) Roman q q refl refl (same_page q f)
+author_line_out Always q f = after_act (acts.Request requests.Break) Roman q q refl refl (same_page q f)
 author_line_out Next q f = said_in Roman (with_place (record q.place { split = Always }) q) q (split_kept Always q f)
 author_line_out Never q f = said_in Roman q q (same_page q f)
 
@@ -278,7 +278,7 @@ splits_out split q f =
     out _ q acts.Nothing acts.Nothing acts.Nothing [] refl refl refl refl (split_kept split q f)
 
 -- by which option a word is, or none
-author_by : Bool → Bool → Page → Met
+author_by : Bool → Bool → Page → Offered
 author_by split nosplit q = if split then splits Always q else if nosplit then splits Never q else named_author q
 
 author_out_by : (t u : Bool) (q : Page) → takes_plain q.call.taker ≡ true → Out (author_by t u q) q (if t then [] else if u then [] else q.word)
@@ -296,7 +296,7 @@ author_out q f = author_out_by (bytes_eq q.word (codes "-split")) (bytes_eq q.wo
 usual_is : (m : Macro) (q : Page) → q.call.taker ≡ m → way_of m ≡ Usual → way_of q.call.taker ≡ Usual
 usual_is m q e u = ap way_of e ∙ u
 
-as_said : (m : Macro) (l : Met) (q : Page) → q.word ≡ said_of (way_of m) q.word → Out l q q.word → Out l q (said_of (way_of m) q.word)
+as_said : (m : Macro) (l : Offered) (q : Page) → q.word ≡ said_of (way_of m) q.word → Out l q q.word → Out l q (said_of (way_of m) q.word)
 as_said m l q e o = subst (λ (xs : List ℕ). Out l q xs) e o
 
 taken_by_out : (m : Macro) (q : Page) → q.call.taker ≡ m → takes_plain m ≡ true → takes_plain q.call.taker ≡ true

@@ -17,13 +17,13 @@ use Rattle.mdoc_converter.specs.Laying.{is_control, is_middle, with_lay}
 use Rattle.mdoc_converter.specs.LayingOut.{lay_out}
 use Rattle.mdoc_converter.specs.Reading.{State, said, heard}
 use Rattle.mdoc_converter.specs.Saying.{part_of, parts_at, parts_of, words_of}
-use Rattle.mdoc_converter.specs.Scanning.{before_next, after_hyphen, after_text, first_before, hyphen_in_text, is_letter, meet}
-use Rattle.mdoc_converter.specs.Seeing.{met, left, taken}
+use Rattle.mdoc_converter.specs.Scanning.{before_next, after_hyphen, after_text, first_before, hyphen_in_text, is_letter, offer}
+use Rattle.mdoc_converter.specs.Seeing.{offered, left, taken}
 use Rattle.mdoc_converter.specs.WordLaws.{reads_at, TextIsSaid}
 use Rattle.mdoc_converter.specs.WrittenLines.{begins_text, each, is_text, row_said}
 use Rattle.mdoc_converter.proofs.After.{after, next-state, Fresh}
 use Rattle.mdoc_converter.proofs.Escapes.{and_left, and_right, is_not, line-text, same_byte}
-use Rattle.mdoc_converter.proofs.Meeting.{with_page, Leads, Takes, then_takes, leads_by, takes_by, takes-words, takes-state}
+use Rattle.mdoc_converter.proofs.Offering.{with_page, Leads, Takes, then_takes, leads_by, takes_by, takes-words, takes-state}
 use Rattle.mdoc_converter.proofs.Outcomes.{Lays}
 use Rattle.mdoc_converter.proofs.Saying.{words_of-append}
 
@@ -39,9 +39,9 @@ next-words b bs s t k xs ys l p q =
 
 -- ---- one byte in a text line
 
-newline_met : (before : Before) (p : Page) → meet (code "\n") (with_scan (scans.Text before) p) ≡ met (with_scan scans.Start p) (taken acts.Ends)
-unfolding meet
-newline_met before p = refl
+newline_offered : (before : Before) (p : Page) → offer (code "\n") (with_scan (scans.Text before) p) ≡ offered (with_scan scans.Start p) (taken acts.Ends)
+unfolding offer
+newline_offered before p = refl
 
 ended : Page → Page
 ended p = (lay_out acts.Ends (with_scan scans.Start p)).page
@@ -54,29 +54,29 @@ newline_taken : (before : Before) (s : State) → Takes (code "\n") (reads_at (s
 unfolding said
 newline_taken before s =
     takes_by (code "\n") (reads_at (scans.Text before) s) (with_scan scans.Start s.page) (ended s.page)
-    acts.Ends acts.Nothing acts.Nothing [] (newline_met before s.page) (ended_page s.page) refl
+    acts.Ends acts.Nothing acts.Nothing [] (newline_offered before s.page) (ended_page s.page) refl
 
-byte_met : (before : Before) (b : ℕ) (p : Page) → (b == code "\n") ≡ false → (b == code "-") ≡ false → ((b == code "\t") && has_rows p.block) ≡ false
-    → meet b (with_scan (scans.Text before) p) ≡ met (with_scan (scans.Text (before_next before b)) p) (taken (acts.Byte b))
-unfolding meet
-byte_met before b p e f g = rw (e, f, g) refl
+byte_offered : (before : Before) (b : ℕ) (p : Page) → (b == code "\n") ≡ false → (b == code "-") ≡ false → ((b == code "\t") && has_rows p.block) ≡ false
+    → offer b (with_scan (scans.Text before) p) ≡ offered (with_scan (scans.Text (before_next before b)) p) (taken (acts.Byte b))
+unfolding offer
+byte_offered before b p e f g = rw (e, f, g) refl
 
 byte_taken : (before : Before) (b : ℕ) (s : State) → (b == code "\n") ≡ false → (b == code "-") ≡ false
     → ((b == code "\t") && has_rows s.page.block) ≡ false → Takes b (reads_at (scans.Text before) s) (reads_at (scans.Text (before_next before b)) s) 1 (b ∷ [])
 unfolding said lay_out
 byte_taken before b s e f g =
     takes_by b (reads_at (scans.Text before) s) (with_scan (scans.Text (before_next before b)) s.page) (with_scan (scans.Text (before_next before b)) s.page)
-    (acts.Byte b) acts.Nothing acts.Nothing (b ∷ []) (byte_met before b s.page e f g) refl refl
+    (acts.Byte b) acts.Nothing acts.Nothing (b ∷ []) (byte_offered before b s.page e f g) refl refl
 
-hyphen_met : (before : Before) (p : Page) → meet (code "-") (with_scan (scans.Text before) p) ≡ hyphen_in_text before (with_scan (scans.Text before) p)
-unfolding meet
-hyphen_met before p = refl
+hyphen_offered : (before : Before) (p : Page) → offer (code "-") (with_scan (scans.Text before) p) ≡ hyphen_in_text before (with_scan (scans.Text before) p)
+unfolding offer
+hyphen_offered before p = refl
 
 held_back : (s : State) → Takes (code "-") (reads_at (scans.Text befores.Letter) s) (reads_at scans.Hyphen s) 1 []
 unfolding said lay_out
 held_back s =
     takes_by (code "-") (reads_at (scans.Text befores.Letter) s) (with_scan scans.Hyphen s.page) (with_scan scans.Hyphen s.page)
-    acts.Nothing acts.Nothing acts.Nothing [] (hyphen_met befores.Letter s.page) refl refl
+    acts.Nothing acts.Nothing acts.Nothing [] (hyphen_offered befores.Letter s.page) refl refl
 
 -- a hyphen of an escape
 in_escape : (escape : Escape) (s : State)
@@ -85,19 +85,19 @@ unfolding said lay_out
 in_escape escape s =
     let p = with_scan (scans.Text (before_next (befores.Within escape) (code "-"))) s.page in
     takes_by (code "-") (reads_at (scans.Text (befores.Within escape)) s) p p
-    (acts.Byte (code "-")) acts.Nothing acts.Nothing (codes "-") (hyphen_met (befores.Within escape) s.page) refl refl
+    (acts.Byte (code "-")) acts.Nothing acts.Nothing (codes "-") (hyphen_offered (befores.Within escape) s.page) refl refl
 
-behind_other : (s : State) → Takes (code "-") (reads_at (scans.Text befores.Other) s) (reads_at (scans.Text befores.Other) s) 1 (codes "-")
+after_other : (s : State) → Takes (code "-") (reads_at (scans.Text befores.Other) s) (reads_at (scans.Text befores.Other) s) 1 (codes "-")
 unfolding said lay_out
-behind_other s =
+after_other s =
     takes_by (code "-") (reads_at (scans.Text befores.Other) s) (with_scan (scans.Text befores.Other) s.page) (with_scan (scans.Text befores.Other) s.page)
-    acts.Hyphen acts.Nothing acts.Nothing (codes "-") (hyphen_met befores.Other s.page) refl refl
+    acts.Hyphen acts.Nothing acts.Nothing (codes "-") (hyphen_offered befores.Other s.page) refl refl
 
--- ---- behind a hyphen that was held back
+-- ---- after a hyphen that was held back
 
-after_met : (b : ℕ) (p : Page) → meet b (with_scan scans.Hyphen p) ≡ after_hyphen b (with_scan scans.Hyphen p)
-unfolding meet
-after_met b p = refl
+after_offered : (b : ℕ) (p : Page) → offer b (with_scan scans.Hyphen p) ≡ after_hyphen b (with_scan scans.Hyphen p)
+unfolding offer
+after_offered b p = refl
 
 hyphen_or : Bool → Act
 hyphen_or t = if t then acts.Byte (code "-") else acts.Hyphen
@@ -117,7 +117,7 @@ unfolding said hyphen_or lay_out
 hyphen_leads b s =
     let p = with_scan (scans.Text befores.Other) s.page in
     leads_by b (reads_at scans.Hyphen s) p p (hyphen_or (is_letter b)) acts.Nothing acts.Nothing (codes "-")
-    (after_met b s.page) (hyphen_page (is_letter b) p) (hyphen_word (is_letter b) p)
+    (after_offered b s.page) (hyphen_page (is_letter b) p) (hyphen_word (is_letter b) p)
 
 ended_lays : (t : Bool) (l : _) (p : Page) → Lays p (if t then with_lay l p else p)
 ended_lays true l p = (l, refl)
@@ -157,9 +157,9 @@ cell_page : (p : Page) → (said (taken acts.Cell) p).page ≡ (lay_out acts.Cel
 unfolding said lay_out
 cell_page p = refl
 
-tab_met : (before : Before) (p : Page) → has_rows p.block ≡ true → meet (code "\t") (with_scan (scans.Text before) p) ≡ met (with_scan scans.Cell p) (taken acts.Cell)
-unfolding meet
-tab_met before p r = rw r refl
+tab_offered : (before : Before) (p : Page) → has_rows p.block ≡ true → offer (code "\t") (with_scan (scans.Text before) p) ≡ offered (with_scan scans.Cell p) (taken acts.Cell)
+unfolding offer
+tab_offered before p r = rw r refl
 
 tab_taken : (before : Before) (s : State) → has_rows s.page.block ≡ true
     → Takes (code "\t") (reads_at (scans.Text before) s) (reads_at scans.Cell (with_page (celled s) s)) 1 []
@@ -167,11 +167,11 @@ unfolding said celled
 tab_taken before s r =
     let p = with_scan scans.Cell s.page in
     takes_by (code "\t") (reads_at (scans.Text before) s) p (with_scan scans.Cell (celled s))
-    acts.Cell acts.Nothing acts.Nothing [] (tab_met before s.page r) (cell_page p ∙ (cell_lays p).1) refl
+    acts.Cell acts.Nothing acts.Nothing [] (tab_offered before s.page r) (cell_page p ∙ (cell_lays p).1) refl
 
-empty_met : (p : Page) → meet (code "\t") (with_scan scans.Cell p) ≡ met (with_scan scans.Cell p) (taken acts.Cell)
-unfolding meet
-empty_met p = refl
+empty_offered : (p : Page) → offer (code "\t") (with_scan scans.Cell p) ≡ offered (with_scan scans.Cell p) (taken acts.Cell)
+unfolding offer
+empty_offered p = refl
 
 -- a cell without text
 empty_taken : (s : State) → Takes (code "\t") (reads_at scans.Cell s) (reads_at scans.Cell (with_page (celled s) s)) 1 []
@@ -179,32 +179,32 @@ unfolding said celled
 empty_taken s =
     let p = with_scan scans.Cell s.page in
     takes_by (code "\t") (reads_at scans.Cell s) p (with_scan scans.Cell (celled s))
-    acts.Cell acts.Nothing acts.Nothing [] (empty_met s.page) (cell_page p ∙ (cell_lays p).1) refl
+    acts.Cell acts.Nothing acts.Nothing [] (empty_offered s.page) (cell_page p ∙ (cell_lays p).1) refl
 
-blank_met : (p : Page) → meet (code " ") (with_scan scans.Cell p) ≡ met (with_scan scans.Cell p) (taken acts.Nothing)
-unfolding meet
-blank_met p = refl
+blank_offered : (p : Page) → offer (code " ") (with_scan scans.Cell p) ≡ offered (with_scan scans.Cell p) (taken acts.Nothing)
+unfolding offer
+blank_offered p = refl
 
 blank_taken : (s : State) → Takes (code " ") (reads_at scans.Cell s) (reads_at scans.Cell s) 1 []
 unfolding said lay_out
 blank_taken s =
     let p = with_scan scans.Cell s.page in
-    takes_by (code " ") (reads_at scans.Cell s) p p acts.Nothing acts.Nothing acts.Nothing [] (blank_met s.page) refl refl
+    takes_by (code " ") (reads_at scans.Cell s) p p acts.Nothing acts.Nothing acts.Nothing [] (blank_offered s.page) refl refl
 
-end_met : (p : Page) → meet (code "\n") (with_scan scans.Cell p) ≡ met (with_scan scans.Start p) (taken acts.Ends)
-unfolding meet
-end_met p = refl
+end_offered : (p : Page) → offer (code "\n") (with_scan scans.Cell p) ≡ offered (with_scan scans.Start p) (taken acts.Ends)
+unfolding offer
+end_offered p = refl
 
 end_taken : (s : State) → Takes (code "\n") (reads_at scans.Cell s) (with_page (ended s.page) (reads_at scans.Start s)) 1 []
 unfolding said
 end_taken s =
     takes_by (code "\n") (reads_at scans.Cell s) (with_scan scans.Start s.page) (ended s.page)
-    acts.Ends acts.Nothing acts.Nothing [] (end_met s.page) (ended_page s.page) refl
+    acts.Ends acts.Nothing acts.Nothing [] (end_offered s.page) (ended_page s.page) refl
 
-cell_met : (b : ℕ) (s : State) → (b == code "\n") ≡ false → (b == code "\t") ≡ false → (b == code " ") ≡ false
-    → meet b (reads_at scans.Cell s).page ≡ met (with_scan (scans.Text (first_before b)) (after_text s.page)) (taken (acts.Begin b))
-unfolding meet
-cell_met b s e f g = rw (e, f, g) refl
+cell_offered : (b : ℕ) (s : State) → (b == code "\n") ≡ false → (b == code "\t") ≡ false → (b == code " ") ≡ false
+    → offer b (reads_at scans.Cell s).page ≡ offered (with_scan (scans.Text (first_before b)) (after_text s.page)) (taken (acts.Begin b))
+unfolding offer
+cell_offered b s e f g = rw (e, f, g) refl
 
 cell_taken : (b : ℕ) (s : State) → (b == code "\n") ≡ false → (b == code "\t") ≡ false → (b == code " ") ≡ false
     → Takes b (reads_at scans.Cell s) (reads_at (scans.Text (first_before b)) (with_page (begun b s) s)) 1 (b ∷ [])
@@ -212,7 +212,7 @@ unfolding begun said
 cell_taken b s e f g =
     let p = with_scan (scans.Text (first_before b)) (after_text s.page) in
     takes_by b (reads_at scans.Cell s) p (with_scan (scans.Text (first_before b)) (begun b s))
-    (acts.Begin b) acts.Nothing acts.Nothing (b ∷ []) (cell_met b s e f g) (begun_page b p ∙ (begun_lays b p).1) refl
+    (acts.Begin b) acts.Nothing acts.Nothing (b ∷ []) (cell_offered b s e f g) (begun_page b p ∙ (begun_lays b p).1) refl
 
 -- ---- all bytes of the line, which is a row or not
 
@@ -238,7 +238,7 @@ taken_hyphen row (befores.Within escape) s r =
     let next = before_next (befores.Within escape) (code "-") in
     record { next = reads_at (scans.Text next) s; xs = codes "-"; takes = in_escape escape s; rest = λ bs rest. ap (λ (zs : List ℕ). code "-" ∷ zs) (rest.text next s r); fresh = λ bs rest none. rest.text_fresh next s r none }
 taken_hyphen row befores.Other s r =
-    record { next = reads_at (scans.Text befores.Other) s; xs = codes "-"; takes = behind_other s; rest = λ bs rest. ap (λ (zs : List ℕ). code "-" ∷ zs) (rest.text befores.Other s r); fresh = λ bs rest none. rest.text_fresh befores.Other s r none }
+    record { next = reads_at (scans.Text befores.Other) s; xs = codes "-"; takes = after_other s; rest = λ bs rest. ap (λ (zs : List ℕ). code "-" ∷ zs) (rest.text befores.Other s r); fresh = λ bs rest none. rest.text_fresh befores.Other s r none }
 
 -- what is said of a byte and of what comes after it, by whether it ends a cell, or is dropped
 said_by : Bool → Bool → Bool → ℕ → List ℕ → List ℕ
@@ -403,16 +403,16 @@ all_said row (b ∷ bs) h =
 
 -- ---- the first byte
 
-start_met : (b : ℕ) (s : State) → is_control b ≡ false → (b == code "\n") ≡ false → has_rows s.page.block ≡ false → (b == code " ") ≡ false
+start_offered : (b : ℕ) (s : State) → is_control b ≡ false → (b == code "\n") ≡ false → has_rows s.page.block ≡ false → (b == code " ") ≡ false
     → (b == code "\t") ≡ false
-    → meet b (reads_at scans.Start s).page ≡ met (with_scan (scans.Text (first_before b)) (after_text s.page)) (taken (acts.Begin b))
-unfolding meet
-start_met b s c e r f g = rw (c, e, r, f, g) refl
+    → offer b (reads_at scans.Start s).page ≡ offered (with_scan (scans.Text (first_before b)) (after_text s.page)) (taken (acts.Begin b))
+unfolding offer
+start_offered b s c e r f g = rw (c, e, r, f, g) refl
 
-row_met : (b : ℕ) (s : State) → is_control b ≡ false → (b == code "\n") ≡ false → has_rows s.page.block ≡ true
-    → meet b (reads_at scans.Start s).page ≡ met (with_scan scans.Cell s.page) (left acts.Row)
-unfolding meet
-row_met b s c e r = rw (c, e, r) refl
+row_offered : (b : ℕ) (s : State) → is_control b ≡ false → (b == code "\n") ≡ false → has_rows s.page.block ≡ true
+    → offer b (reads_at scans.Start s).page ≡ offered (with_scan scans.Cell s.page) (left acts.Row)
+unfolding offer
+row_offered b s c e r = rw (c, e, r) refl
 
 row_page : (p : Page) → (said (left acts.Row) p).page ≡ (lay_out acts.Row p).page
 unfolding said lay_out
@@ -431,7 +431,7 @@ unfolding said rowed
 row_leads b s c e r =
     let p = with_scan scans.Cell s.page in
     leads_by b (reads_at scans.Start s) p (with_scan scans.Cell (rowed s))
-    acts.Row acts.Nothing acts.Nothing [] (row_met b s c e r) (row_page p ∙ (row_lays p).1) refl
+    acts.Row acts.Nothing acts.Nothing [] (row_offered b s c e r) (row_page p ∙ (row_lays p).1) refl
 
 -- the line begins, as a row or not
 record Started (b : ℕ) (s : State) : Type 0 where
@@ -463,7 +463,7 @@ line_starts false b s c e f g r =
       few = one_of 0;
       takes =
           takes_by b (reads_at scans.Start s) p (with_scan (scans.Text (first_before b)) (begun b s))
-          (acts.Begin b) acts.Nothing acts.Nothing (b ∷ []) (start_met b s c e r f g) (begun_page b p ∙ (begun_lays b p).1) refl;
+          (acts.Begin b) acts.Nothing acts.Nothing (b ∷ []) (start_offered b s c e r f g) (begun_page b p ∙ (begun_lays b p).1) refl;
       marks = refl;
       block = refl;
     }

@@ -12,8 +12,8 @@ use Rattle.mdoc_converter.specs.declared.page.Split.{Split}
 use Rattle.mdoc_converter.specs.declared.page.Split.TheVariants.{Never, Next, Always}
 use Rattle.mdoc_converter.specs.Calls.{heads_line, is_in_synopsis, is_none, with_place, takes_no_more}
 use Rattle.mdoc_converter.specs.Keeping.{is_whole, whole_for}
-use Rattle.mdoc_converter.specs.Seeing.{Met}
-use Rattle.mdoc_converter.specs.Taking.{author, author_line_by, behind_first, function, function_begins, include, is_conditional, is_first, is_outside, keeps_link, link, listing, named, named_author, naming, parameter, prefix, reference, taken_alone_by, taken_by, taken_word}
+use Rattle.mdoc_converter.specs.Seeing.{Offered}
+use Rattle.mdoc_converter.specs.Taking.{author, author_line_by, after_first, function, function_begins, include, is_conditional, is_first, is_outside, keeps_link, link, listing, named, named_author, naming, parameter, prefix, reference, taken_alone_by, taken_by, taken_word}
 use Rattle.mdoc_converter.proofs.Outcomes.{never}
 
 -- ---- pages that are the same in this
@@ -39,7 +39,7 @@ apart_whole macros.Parameter p h = never h
 apart_whole macros.Function p h = never h
 apart_whole m p h = refl
 
-apart_if : (t : Bool) (a b : Met) → apart a.page.call.taker ≡ true → apart b.page.call.taker ≡ true → apart (if t then a else b).page.call.taker ≡ true
+apart_if : (t : Bool) (a b : Offered) → apart a.page.call.taker ≡ true → apart b.page.call.taker ≡ true → apart (if t then a else b).page.call.taker ≡ true
 apart_if true a b h i = h
 apart_if false a b h i = i
 
@@ -75,14 +75,14 @@ link_apart q h = apart_if q.call.some _ _ (apart_if q.call.listed _ _ h h) (apar
 
 prefix_apart : (q : Page) → apart (prefix q).page.call.taker ≡ true
 unfolding apart
-prefix_apart q = apart_if q.lay.front _ _ refl refl
+prefix_apart q = apart_if q.lay.partial _ _ refl refl
 
 include_apart : (q : Page) → apart (include q).page.call.taker ≡ true
 unfolding apart
-include_apart q = apart_if q.lay.front _ _ refl refl
+include_apart q = apart_if q.lay.partial _ _ refl refl
 
 begins_apart : (q : Page) → apart q.call.taker ≡ true → apart (function_begins q).page.call.taker ≡ true
-begins_apart q h = apart_if q.lay.front _ _ h h
+begins_apart q h = apart_if q.lay.partial _ _ h h
 
 alone_apart : (m : Macro) (q : Page) → apart q.call.taker ≡ true → apart (taken_alone_by m q).page.call.taker ≡ true
 unfolding apart
@@ -122,7 +122,7 @@ taken_apart m q i h = alone_apart q.call.taker q h
 
 -- ---- parameters, and a function's
 
-whole_if : (t : Bool) (a b : Met) (w : Bool) → is_whole a.page ≡ w → is_whole b.page ≡ w → is_whole (if t then a else b).page ≡ w
+whole_if : (t : Bool) (a b : Offered) (w : Bool) → is_whole a.page ≡ w → is_whole b.page ≡ w → is_whole (if t then a else b).page ≡ w
 whole_if true a b w h i = h
 whole_if false a b w h i = i
 
@@ -142,7 +142,7 @@ first_taker false q = refl
 
 parameter_whole : (q : Page) → q.call.taker ≡ macros.Parameter → is_whole (parameter q).page ≡ is_whole q
 parameter_whole q e =
-    let p = listing (behind_first q) in
+    let p = listing (after_first q) in
     let first = is_first q.place.parameters in
     whole_if (is_outside q.place.parameters) _ _ (is_whole q) refl
     (ap (λ (m : Macro). whole_for m p) (first_taker first q ∙ e)
@@ -152,7 +152,7 @@ parameter_whole q e =
 function_whole : (q : Page) → is_whole (function q).page ≡ is_whole q
 function_whole q =
     whole_if (not q.call.some) _ _ (is_whole q)
-    (whole_if q.lay.front _ _ (is_whole q) (same_whole q _ refl refl) refl)
+    (whole_if q.lay.partial _ _ (is_whole q) (same_whole q _ refl refl) refl)
     (whole_if (not q.call.listed) _ _ (is_whole q) (same_whole q _ refl refl) refl)
 
 close_whole : (m : Macro) (q : Page) → q.call.taker ≡ m → apart m ≡ false → is_whole (taken_by m q).page ≡ is_whole q

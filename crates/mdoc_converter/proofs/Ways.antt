@@ -8,7 +8,7 @@ use Rattle.mdoc_converter.specs.declared.escaping.Escape.{Escape as Reached}
 use Rattle.mdoc_converter.specs.declared.macros.Macro.{Macro}
 use Rattle.mdoc_converter.specs.declared.macros.Macro.TheVariants as macros
 use Rattle.mdoc_converter.specs.declared.page.Page.{Page}
-use Rattle.mdoc_converter.specs.Calls.{is_due, is_due_from, is_enclosure_due, is_none, is_opened_by}
+use Rattle.mdoc_converter.specs.Calls.{is_pending, is_pending_from, is_enclosure_pending, is_none, is_opened_by}
 use Rattle.mdoc_converter.specs.Keeping.{ends_in_hyphen, has_dashes, is_title, looks_up}
 use Rattle.mdoc_converter.specs.Options.{is_heading, reads_for}
 use Rattle.mdoc_converter.specs.Taking.{is_bar, is_opening}
@@ -17,19 +17,19 @@ use Rattle.mdoc_converter.specs.WrittenLines.{is_held, is_hyphen, is_named, kept
 use Rattle.mdoc_converter.proofs.Escapes.{and_left, and_right, is_not, same_byte}
 use Rattle.mdoc_converter.proofs.Outcomes.{never, takes_as, takes_plain}
 
--- ---- macros that take words otherwise are not due
+-- ---- macros that take words otherwise are not pending
 
-due_from_usual : (m : Macro) (some named : Bool) → is_due_from m some named ≡ true → way_of m ≡ Usual
-due_from_usual macros.Describes some named h = never h
-due_from_usual (macros.Part letter) some named h = never h
-due_from_usual macros.Author some named h = never h
-due_from_usual macros.Section some named h = never h
-due_from_usual macros.SectionName some named h = never h
-due_from_usual macros.Subsection some named h = never h
-due_from_usual m some named h = refl
+pending_from_usual : (m : Macro) (some named : Bool) → is_pending_from m some named ≡ true → way_of m ≡ Usual
+pending_from_usual macros.Describes some named h = never h
+pending_from_usual (macros.Part letter) some named h = never h
+pending_from_usual macros.Author some named h = never h
+pending_from_usual macros.Section some named h = never h
+pending_from_usual macros.SectionName some named h = never h
+pending_from_usual macros.Subsection some named h = never h
+pending_from_usual m some named h = refl
 
-pub due_usual : (p : Page) → is_due p ≡ true → way_of p.call.taker ≡ Usual
-due_usual p h = due_from_usual p.call.taker p.call.some _ h
+pub pending_usual : (p : Page) → is_pending p ≡ true → way_of p.call.taker ≡ Usual
+pending_usual p h = pending_from_usual p.call.taker p.call.some _ h
 
 opened_by_usual : (m : Macro) → is_opened_by m ≡ true → way_of m ≡ Usual
 opened_by_usual macros.Describes h = never h
@@ -40,7 +40,7 @@ opened_by_usual macros.SectionName h = never h
 opened_by_usual macros.Subsection h = never h
 opened_by_usual m h = refl
 
-pub opened_usual : (p : Page) → is_enclosure_due p ≡ true → way_of p.call.taker ≡ Usual
+pub opened_usual : (p : Page) → is_enclosure_pending p ≡ true → way_of p.call.taker ≡ Usual
 opened_usual p h = opened_by_usual p.call.taker (and_left (is_opened_by p.call.taker) (not p.call.some) h)
 
 pub prefix_usual : (m : Macro) → is_prefix m ≡ true → way_of m ≡ Usual
@@ -98,9 +98,9 @@ none_by false true u b = refl
 none_by false false true b = refl
 none_by false false false b = refl
 
-pub letter_some : (way : Way) (whole : Bool) (reached : Option Reached) (behind : Bool) (l : Letter) → is_none (kept_letter way whole reached behind l) ≡ false
-letter_some way whole reached behind (Plain b) = none_by (is_named reached b) ((b == code " ") && whole) (is_held way behind b) b
-letter_some way whole reached behind (Escape b) = refl
+pub letter_some : (way : Way) (whole : Bool) (reached : Option Reached) (following : Bool) (l : Letter) → is_none (kept_letter way whole reached following l) ≡ false
+letter_some way whole reached following (Plain b) = none_by (is_named reached b) ((b == code " ") && whole) (is_held way following b) b
+letter_some way whole reached following (Escape b) = refl
 
 first_none : (t : Bool) (b : ℕ) → is_none (if t then codes "\\~" else b ∷ []) ≡ false
 first_none true b = refl
@@ -135,10 +135,10 @@ letter_last_by false true true v b word e = blank_last word ∙ sym (blank_no_hy
 letter_last_by false true false v b word e = plain_last (b == code "-") v b word refl
 letter_last_by false false f v b word e = plain_last (b == code "-") v b word refl
 
-pub letter_last : (way : Way) (whole : Bool) (reached : Option Reached) (behind : Bool) (l : Letter) (word : List ℕ)
-    → ends_in_hyphen (word ++ kept_letter way whole reached behind l) ≡ is_hyphen l
-letter_last way whole reached behind (Plain b) word = letter_last_by (is_named reached b) (b == code " ") whole (holds_hyphen way behind) b word refl
-letter_last way whole reached behind (Escape b) word = escape_last b word
+pub letter_last : (way : Way) (whole : Bool) (reached : Option Reached) (following : Bool) (l : Letter) (word : List ℕ)
+    → ends_in_hyphen (word ++ kept_letter way whole reached following l) ≡ is_hyphen l
+letter_last way whole reached following (Plain b) word = letter_last_by (is_named reached b) (b == code " ") whole (holds_hyphen way following) b word refl
+letter_last way whole reached following (Escape b) word = escape_last b word
 
 first_last_by : (t f : Bool) (b : ℕ) (word : List ℕ) → (b == code " ") ≡ t
     → ends_in_hyphen (word ++ (if t && f then codes "\\~" else b ∷ [])) ≡ (b == code "-")

@@ -11,47 +11,47 @@ use Rattle.mdoc_converter.specs.declared.macros.Pair.TheVariants as pairs
 use Rattle.mdoc_converter.specs.declared.page.Page.{Page}
 use Rattle.mdoc_converter.specs.declared.page.Scan.TheVariants as scans
 use Rattle.mdoc_converter.specs.declared.seen.Seen.{Seen}
-use Rattle.mdoc_converter.specs.Calls.{called_by, called, calls, call, encloses_address, is_due, is_enclosure_due, is_flag, is_none, joining, leaves, opens_address, seen_with, with_scan}
+use Rattle.mdoc_converter.specs.Calls.{called_by, called, calls, call, encloses_address, is_pending, is_enclosure_pending, is_flag, is_none, joining, leaves, opens_address, seen_with, with_scan}
 use Rattle.mdoc_converter.specs.Macros.{is_callable}
 use Rattle.mdoc_converter.specs.Options.{is_heading, reads_for}
 use Rattle.mdoc_converter.specs.Reading.{State}
-use Rattle.mdoc_converter.specs.Scanning.{meet}
-use Rattle.mdoc_converter.specs.Seeing.{Met, met, left, three}
+use Rattle.mdoc_converter.specs.Scanning.{offer}
+use Rattle.mdoc_converter.specs.Seeing.{Offered, offered, left, three}
 use Rattle.mdoc_converter.specs.Texts.{closer}
 use Rattle.mdoc_converter.specs.Taking.{argument, is_bar, is_opening, some_taken, taken_word}
 use Rattle.mdoc_converter.specs.WrittenLines.{asks, heads_words, none_or, prints_otherwise, prints_words, said_of, unless_called, Way, Usual, way_after, way_of}
 use Rattle.mdoc_converter.specs.Words.{closing_mark, marked_or, parsed, read_or_called, unmarked}
 use Rattle.mdoc_converter.proofs.Escapes.{and_left, and_right, is_not}
-use Rattle.mdoc_converter.proofs.Given.{Whole, whole_of, whole_behind, whole_within, given_met}
+use Rattle.mdoc_converter.proofs.Given.{Whole, whole_of, whole_after, whole_within, given_offered}
 use Rattle.mdoc_converter.proofs.MarksHeld.{the_mark, one_at_most, two_at_most, mark_whole}
 use Rattle.mdoc_converter.proofs.Outcomes.{is_quiet, of_word, never, Lined, takes_plain, Keeps, Out, out, out_when, same_page, leaves_out}
 use Rattle.mdoc_converter.proofs.Stepping.{At, Head, In, Left, Manner, plainly, out_step, no_more_step, left_step, leaves_step, marks_step}
 use Rattle.mdoc_converter.proofs.Taken.{called_out, taken_out, said_in}
-use Rattle.mdoc_converter.proofs.Ways.{due_usual, opened_usual, said_bar, said_one, said_opening}
+use Rattle.mdoc_converter.proofs.Ways.{pending_usual, opened_usual, said_bar, said_one, said_opening}
 
 -- ---- words that are no marks
 
-unfoldable pub unmarked_by : Bool → Option Macro → Page → Met
-unmarked_by none called p = if not none then met p (left acts.Marks) else read_or_called called false p
+unfoldable pub unmarked_by : Bool → Option Macro → Page → Offered
+unmarked_by none called p = if not none then offered p (left acts.Marks) else read_or_called called false p
 
 pub unmarked_is : (p : Page) → unmarked false p ≡ unmarked_by (is_none p.marks) (called_by p.call.plain p.word) p
 unfolding unmarked unmarked_by
 unmarked_is p = refl
 
-unmarked_met : (head : Head) (b : ℕ) (s : State) (word marks : List ℕ) → At head s (scans.Given false) word marks
-    → closing_mark false word ≡ None → meet b s.page ≡ unmarked_by (is_none s.page.marks) (called_by s.page.call.plain s.page.word) s.page
+unmarked_offered : (head : Head) (b : ℕ) (s : State) (word marks : List ℕ) → At head s (scans.Given false) word marks
+    → closing_mark false word ≡ None → offer b s.page ≡ unmarked_by (is_none s.page.marks) (called_by s.page.call.plain s.page.word) s.page
 unfolding parsed
-unmarked_met head b s word marks at e =
-    given_met head b s word marks at
+unmarked_offered head b s word marks at e =
+    given_offered head b s word marks at
     ∙ ap (λ (w : List ℕ). marked_or (closing_mark false w) false s.page) at.word_is
     ∙ ap (λ (o : Option ℕ). marked_or o false s.page) e ∙ unmarked_is s.page
 
-clear_met : (head : Head) (b : ℕ) (s : State) (word : List ℕ) (o : Option Macro) → At head s (scans.Given false) word []
-    → closing_mark false word ≡ None → called_by head.line.mute word ≡ o → meet b s.page ≡ read_or_called o false s.page
+clear_offered : (head : Head) (b : ℕ) (s : State) (word : List ℕ) (o : Option Macro) → At head s (scans.Given false) word []
+    → closing_mark false word ≡ None → called_by head.line.mute word ≡ o → offer b s.page ≡ read_or_called o false s.page
 unfolding unmarked_by
-clear_met head b s word o at e f =
+clear_offered head b s word o at e f =
     let p = s.page in
-    unmarked_met head b s word [] at e
+    unmarked_offered head b s word [] at e
     ∙ ap (λ (xs : List ℕ). unmarked_by (is_none xs) (called_by p.call.plain p.word) p) at.marks_are
     ∙ ap (λ (w : List ℕ). read_or_called (called_by p.call.plain w) false p) at.word_is
     ∙ ap (λ (l : Lined). read_or_called (called_by l.mute word) false p) at.line
@@ -113,7 +113,7 @@ joined_words xs ys zs e =
     let rest = none_right xs (ys ++ (zs ++ [])) e in
     ap (λ (us : List ℕ). us ++ ([] ++ (zs ++ []))) (none_left xs (ys ++ (zs ++ [])) e) ∙ none_right ys (zs ++ []) rest
 
-joined_out : (t : Bool) (m : Met) (p : Page) → Out m p [] → Out (joining t m) p []
+joined_out : (t : Bool) (m : Offered) (p : Page) → Out m p [] → Out (joining t m) p []
 unfolding is_quiet of_word
 joined_out true m p o = record {
   x = o.x;
@@ -128,15 +128,15 @@ joined_out true m p o = record {
 }
 joined_out false m p o = o
 
-joined_page : (t : Bool) (m : Met) → (joining t m).page ≡ m.page
+joined_page : (t : Bool) (m : Offered) → (joining t m).page ≡ m.page
 joined_page true m = refl
 joined_page false m = refl
 
-unfoldable pub call_by : Bool → Bool → Macro → Page → Met
-call_by due address m p =
-    if not due then calls m p else if address then opens_address p else joining (is_flag p.call.taker) (leaves p)
+unfoldable pub call_by : Bool → Bool → Macro → Page → Offered
+call_by pending address m p =
+    if not pending then calls m p else if address then opens_address p else joining (is_flag p.call.taker) (leaves p)
 
-pub call_is : (m : Macro) (p : Page) → call m p ≡ call_by (is_due p) (encloses_address m p) m p
+pub call_is : (m : Macro) (p : Page) → call m p ≡ call_by (is_pending p) (encloses_address m p) m p
 unfolding call call_by
 call_is m p = refl
 
@@ -144,12 +144,12 @@ call_is m p = refl
 calling : Macro → Page → Page
 calling m p = record p { scan = scans.Between; call = record p.call { taker = m; first = false; some = false; listed = false } }
 
--- how the words behind a word are taken
-abbrev pub behind_head : Head → Option Macro → Head
-behind_head head o = record { line = head.line; way = way_after head.way o }
+-- how the words after a word are taken
+abbrev pub after_head : Head → Option Macro → Head
+after_head head o = record { line = head.line; way = way_after head.way o }
 
 -- a word that calls nothing
-pub called_nothing : (head : Head) (b : ℕ) (s : State) (k : ℕ) (all : List ℕ) → Whole head b s k all → Whole (behind_head head None) b s k all
+pub called_nothing : (head : Head) (b : ℕ) (s : State) (k : ℕ) (all : List ℕ) → Whole head b s k all → Whole (after_head head None) b s k all
 called_nothing head b s k all w = record {
   steps = w.steps;
   few = w.few;
@@ -175,12 +175,12 @@ called_nothing head b s k all w = record {
   total = w.total;
 }
 
-pub calls_whole : (head : Manner) (behind : Head) (m : Macro) (b : ℕ) (s : State) (word : List ℕ) → In false head s (scans.Given false) word []
-    → head.line ≡ behind.line → way_of m ≡ behind.way → takes_plain m ≡ true → meet b s.page ≡ calls m s.page → Whole behind b s 1 []
+pub calls_whole : (head : Manner) (following : Head) (m : Macro) (b : ℕ) (s : State) (word : List ℕ) → In false head s (scans.Given false) word []
+    → head.line ≡ following.line → way_of m ≡ following.way → takes_plain m ≡ true → offer b s.page ≡ calls m s.page → Whole following b s 1 []
 unfolding calling
-calls_whole head behind m b s word at line way f e =
-    whole_of behind b s 1 1 [] s.page.word [] [] one_at_most
-    (out_step behind b s (calls m s.page) (calling m s.page) [] [] e (called_out m (calling m s.page) f)
+calls_whole head following m b s word at line way f e =
+    whole_of following b s 1 1 [] s.page.word [] [] one_at_most
+    (out_step following b s (calls m s.page) (calling m s.page) [] [] e (called_out m (calling m s.page) f)
     at.marks_are at.few at.going at.comment (at.line ∙ line) way (λ h. refl))
     refl
 
@@ -204,49 +204,49 @@ address_out p u =
       way = sym u;
     })
 
--- what is due is said first
-due_step : (t : Bool) (head : Head) (m : Macro) (b : ℕ) (s : State) (word : List ℕ) → At head s (scans.Given false) word []
-    → is_due s.page ≡ true → meet b s.page ≡ call_by true t m s.page → Left head b s (scans.Given false) word []
+-- what is pending is said first
+pending_step : (t : Bool) (head : Head) (m : Macro) (b : ℕ) (s : State) (word : List ℕ) → At head s (scans.Given false) word []
+    → is_pending s.page ≡ true → offer b s.page ≡ call_by true t m s.page → Left head b s (scans.Given false) word []
 unfolding call_by
-due_step true head m b s word at due e =
+pending_step true head m b s word at pending e =
     let p = s.page in
     let closers = take (length p.closers - 1) p.closers ++ closer pairs.Signs ∷ [] in
-    no_more_step head b s (opens_address p) (record p { closers = closers }) (scans.Given false) word [] at e (address_out p (due_usual p due)) refl
-due_step false head m b s word at due e =
+    no_more_step head b s (opens_address p) (record p { closers = closers }) (scans.Given false) word [] at e (address_out p (pending_usual p pending)) refl
+pending_step false head m b s word at pending e =
     let p = s.page in
     let flag = is_flag p.call.taker in
     left_step head b s (joining flag (leaves p)) (scans.Given false) word [] at e
-    (joined_out flag (leaves p) p (leaves_out p at.fits (due_usual p due))) (joined_page flag (leaves p))
+    (joined_out flag (leaves p) p (leaves_out p at.fits (pending_usual p pending))) (joined_page flag (leaves p))
 
 called_whole : (t : Bool) (head : Head) (m : Macro) (b : ℕ) (s : State) (word : List ℕ) → At head s (scans.Given false) word [] → takes_plain m ≡ true
-    → closing_mark false word ≡ None → called_by head.line.mute word ≡ Some m → is_due s.page ≡ t
-    → Whole (behind_head head (Some m)) b s 2 []
+    → closing_mark false word ≡ None → called_by head.line.mute word ≡ Some m → is_pending s.page ≡ t
+    → Whole (after_head head (Some m)) b s 2 []
 unfolding call_by
-called_whole true head m b s word at f e g due =
+called_whole true head m b s word at f e g pending =
     let p = s.page in
-    let first = due_step (encloses_address m p) head m b s word at due
-    (clear_met head b s word (Some m) at e g ∙ call_is m p ∙ ap (λ (t : Bool). call_by t (encloses_address m p) m p) due) in
+    let first = pending_step (encloses_address m p) head m b s word at pending
+    (clear_offered head b s word (Some m) at e g ∙ call_is m p ∙ ap (λ (t : Bool). call_by t (encloses_address m p) m p) pending) in
     let t = first.step.next in
-    whole_behind (behind_head head (Some m)) b s t 1 [] [] [] first.step.leads
-    (calls_whole (plainly head) (behind_head head (Some m)) m b t word first.step.at refl refl f
-    (clear_met head b t word (Some m) first.step.at e g ∙ call_is m t.page ∙ ap (λ (t2 : Bool). call_by t2 (encloses_address m t.page) m t.page) first.not_due))
+    whole_after (after_head head (Some m)) b s t 1 [] [] [] first.step.leads
+    (calls_whole (plainly head) (after_head head (Some m)) m b t word first.step.at refl refl f
+    (clear_offered head b t word (Some m) first.step.at e g ∙ call_is m t.page ∙ ap (λ (t2 : Bool). call_by t2 (encloses_address m t.page) m t.page) first.not_pending))
     refl
-called_whole false head m b s word at f e g due =
-    whole_within (behind_head head (Some m)) b s 1 2 [] two_at_most
-    (calls_whole (plainly head) (behind_head head (Some m)) m b s word at refl refl f (clear_met head b s word (Some m) at e g ∙ call_is m s.page ∙ ap (λ (t : Bool). call_by t (encloses_address m s.page) m s.page) due))
+called_whole false head m b s word at f e g pending =
+    whole_within (after_head head (Some m)) b s 1 2 [] two_at_most
+    (calls_whole (plainly head) (after_head head (Some m)) m b s word at refl refl f (clear_offered head b s word (Some m) at e g ∙ call_is m s.page ∙ ap (λ (t : Bool). call_by t (encloses_address m s.page) m s.page) pending))
 
 -- ---- words that a macro takes
 
-argument_by : Bool → Bool → Page → Met
+argument_by : Bool → Bool → Page → Offered
 argument_by first second p =
     let q = with_scan scans.Between p in
     if first then leaves p else
     if second then leaves p else
-    if is_bar p.word then met q (left (acts.Word Roman)) else
-    if is_opening p.word then met q (three (acts.Word Roman) acts.Join acts.Nothing) else
+    if is_bar p.word then offered q (left (acts.Word Roman)) else
+    if is_opening p.word then offered q (three (acts.Word Roman) acts.Join acts.Nothing) else
     seen_with (some_taken (taken_word q).page) (taken_word q)
 
-argument_is : (p : Page) → argument false p ≡ argument_by (is_bar p.word && is_due p) (is_enclosure_due p && not (is_opening p.word)) p
+argument_is : (p : Page) → argument false p ≡ argument_by (is_bar p.word && is_pending p) (is_enclosure_pending p && not (is_opening p.word)) p
 unfolding argument argument_by
 argument_is p = refl
 
@@ -263,7 +263,7 @@ some_kept q p i = record {
   way = i.way;
 }
 
-out_same : (m : Met) (q : Page) (xs ys : List ℕ) → xs ≡ ys → Out m q xs → Out m q ys
+out_same : (m : Offered) (q : Page) (xs ys : List ℕ) → xs ≡ ys → Out m q xs → Out m q ys
 out_same m q xs ys e o = subst (λ (zs : List ℕ). Out m q zs) e o
 
 argument_out : (p : Page) → takes_plain p.call.taker ≡ true → Out (argument_by false false p) (with_scan scans.Between p) (said_of (way_of p.call.taker) p.word)
@@ -290,7 +290,7 @@ argument_out p f =
     }))
 
 said_whole : (head : Head) (b : ℕ) (s : State) (word : List ℕ) → At head s (scans.Given false) word []
-    → meet b s.page ≡ argument_by false false s.page → Whole head b s 1 (said_of head.way word)
+    → offer b s.page ≡ argument_by false false s.page → Whole head b s 1 (said_of head.way word)
 said_whole head b s word at e =
     let p = s.page in
     let xs = said_of (way_of p.call.taker) p.word in
@@ -303,47 +303,47 @@ pub and_false : (a b : Bool) → b ≡ false → (a && b) ≡ false
 and_false true b e = e
 and_false false b e = refl
 
-argument_met : (head : Head) (b : ℕ) (s : State) (word : List ℕ) (t u : Bool) → At head s (scans.Given false) word []
+argument_offered : (head : Head) (b : ℕ) (s : State) (word : List ℕ) (t u : Bool) → At head s (scans.Given false) word []
     → closing_mark false word ≡ None → called_by head.line.mute word ≡ None
-    → (is_bar s.page.word && is_due s.page) ≡ t → (is_enclosure_due s.page && not (is_opening s.page.word)) ≡ u → meet b s.page ≡ argument_by t u s.page
-argument_met head b s word t u at e f g h =
+    → (is_bar s.page.word && is_pending s.page) ≡ t → (is_enclosure_pending s.page && not (is_opening s.page.word)) ≡ u → offer b s.page ≡ argument_by t u s.page
+argument_offered head b s word t u at e f g h =
     let p = s.page in
-    clear_met head b s word None at e f ∙ argument_is p
-    ∙ ap (λ (x : Bool). argument_by x (is_enclosure_due p && not (is_opening p.word)) p) g ∙ ap (λ (x : Bool). argument_by t x p) h
+    clear_offered head b s word None at e f ∙ argument_is p
+    ∙ ap (λ (x : Bool). argument_by x (is_enclosure_pending p && not (is_opening p.word)) p) g ∙ ap (λ (x : Bool). argument_by t x p) h
 
--- what is due comes first
-due_whole : (head : Head) (b : ℕ) (s : State) (word : List ℕ) → At head s (scans.Given false) word []
-    → closing_mark false word ≡ None → called_by head.line.mute word ≡ None → way_of s.page.call.taker ≡ Usual → meet b s.page ≡ leaves s.page
+-- what is pending comes first
+pending_whole : (head : Head) (b : ℕ) (s : State) (word : List ℕ) → At head s (scans.Given false) word []
+    → closing_mark false word ≡ None → called_by head.line.mute word ≡ None → way_of s.page.call.taker ≡ Usual → offer b s.page ≡ leaves s.page
     → Whole head b s 2 (said_of head.way word)
-due_whole head b s word at e f u g =
+pending_whole head b s word at e f u g =
     let first = leaves_step head b s (scans.Given false) word [] at u g in
     let t = first.step.next in
-    whole_behind head b s t 1 [] (said_of head.way word) (said_of head.way word) first.step.leads
+    whole_after head b s t 1 [] (said_of head.way word) (said_of head.way word) first.step.leads
     (said_whole head b t word first.step.at
-    (argument_met head b t word false false first.step.at e f
-    (and_false (is_bar t.page.word) (is_due t.page) first.not_due)
+    (argument_offered head b t word false false first.step.at e f
+    (and_false (is_bar t.page.word) (is_pending t.page) first.not_pending)
     (ap (λ (x : Bool). x && not (is_opening t.page.word)) first.no_enclosure)))
     refl
 
 argument_whole : (t u : Bool) (head : Head) (b : ℕ) (s : State) (word : List ℕ) → At head s (scans.Given false) word []
     → closing_mark false word ≡ None → called_by head.line.mute word ≡ None
-    → (is_bar s.page.word && is_due s.page) ≡ t → (is_enclosure_due s.page && not (is_opening s.page.word)) ≡ u
+    → (is_bar s.page.word && is_pending s.page) ≡ t → (is_enclosure_pending s.page && not (is_opening s.page.word)) ≡ u
     → Whole head b s 2 (said_of head.way word)
 unfolding argument_by
 argument_whole true u head b s word at e f g h =
-    due_whole head b s word at e f (due_usual s.page (and_right (is_bar s.page.word) (is_due s.page) g)) (argument_met head b s word true u at e f g h)
+    pending_whole head b s word at e f (pending_usual s.page (and_right (is_bar s.page.word) (is_pending s.page) g)) (argument_offered head b s word true u at e f g h)
 argument_whole false true head b s word at e f g h =
-    due_whole head b s word at e f (opened_usual s.page (and_left (is_enclosure_due s.page) (not (is_opening s.page.word)) h)) (argument_met head b s word false true at e f g h)
+    pending_whole head b s word at e f (opened_usual s.page (and_left (is_enclosure_pending s.page) (not (is_opening s.page.word)) h)) (argument_offered head b s word false true at e f g h)
 argument_whole false false head b s word at e f g h =
-    whole_within head b s 1 2 (said_of head.way word) two_at_most (said_whole head b s word at (argument_met head b s word false false at e f g h))
+    whole_within head b s 1 2 (said_of head.way word) two_at_most (said_whole head b s word at (argument_offered head b s word false false at e f g h))
 
 clear_whole : (o : Option Macro) (head : Head) (b : ℕ) (s : State) (word : List ℕ) → At head s (scans.Given false) word []
     → closing_mark false word ≡ None → called_by head.line.mute word ≡ o → none_or prints_words o ≡ true
-    → Whole (behind_head head o) b s 2 (unless_called head.way o word)
+    → Whole (after_head head o) b s 2 (unless_called head.way o word)
 clear_whole None head b s word at e f g =
     called_nothing head b s 2 (said_of head.way word)
-    (argument_whole (is_bar s.page.word && is_due s.page) (is_enclosure_due s.page && not (is_opening s.page.word)) head b s word at e f refl refl)
-clear_whole (Some m) head b s word at e f g = called_whole (is_due s.page) head m b s word at (prints_plain m g) e f refl
+    (argument_whole (is_bar s.page.word && is_pending s.page) (is_enclosure_pending s.page && not (is_opening s.page.word)) head b s word at e f refl refl)
+clear_whole (Some m) head b s word at e f g = called_whole (is_pending s.page) head m b s word at (prints_plain m g) e f refl
 
 whole_same : (head : Head) (b : ℕ) (s : State) (k : ℕ) (xs ys : List ℕ) → xs ≡ ys → Whole head b s k xs → Whole head b s k ys
 whole_same head b s k xs ys e w = subst (λ (zs : List ℕ). Whole head b s k zs) e w
@@ -354,42 +354,42 @@ is_none-nil (x ∷ xs) e = absurd (let no : (length (x ∷ xs) == 0) ≡ true = 
 
 unmarked_whole : (t : Bool) (head : Head) (b : ℕ) (s : State) (word marks : List ℕ) → At head s (scans.Given false) word marks
     → closing_mark false word ≡ None → none_or prints_words (called_by head.line.mute word) ≡ true → is_none s.page.marks ≡ t
-    → Whole (behind_head head (called_by head.line.mute word)) b s 3 (marks ++ unless_called head.way (called_by head.line.mute word) word)
+    → Whole (after_head head (called_by head.line.mute word)) b s 3 (marks ++ unless_called head.way (called_by head.line.mute word) word)
 unfolding unmarked_by
 unmarked_whole true head b s word marks at e f none =
     let o = called_by head.line.mute word in
     let all = unless_called head.way o word in
-    let behind = behind_head head o in
+    let following = after_head head o in
     let no_marks : marks ≡ [] = sym at.marks_are ∙ is_none-nil s.page.marks none in
     let clear : At head s (scans.Given false) word [] = subst (λ (xs : List ℕ). At head s (scans.Given false) word xs) no_marks at in
-    whole_same behind b s 3 all (marks ++ all) (ap (λ (xs : List ℕ). xs ++ all) (sym no_marks))
-    (whole_within behind b s 2 3 all (omega arith) (clear_whole o head b s word clear e refl f))
+    whole_same following b s 3 all (marks ++ all) (ap (λ (xs : List ℕ). xs ++ all) (sym no_marks))
+    (whole_within following b s 2 3 all (omega arith) (clear_whole o head b s word clear e refl f))
 unmarked_whole false head b s word marks at e f none =
     let p = s.page in
     let first = marks_step head b s (scans.Given false) word marks at
-    (unmarked_met head b s word marks at e ∙ ap (λ (t : Bool). unmarked_by t (called_by p.call.plain p.word) p) none) in
+    (unmarked_offered head b s word marks at e ∙ ap (λ (t : Bool). unmarked_by t (called_by p.call.plain p.word) p) none) in
     let o = called_by head.line.mute word in
     let all = unless_called head.way o word in
-    whole_behind (behind_head head o) b s first.next 2 marks all (marks ++ all) first.leads
+    whole_after (after_head head o) b s first.next 2 marks all (marks ++ all) first.leads
     (clear_whole o head b first.next word first.at e refl f) refl
 
 -- a mark calls nothing
 mark_whole_as : (head : Head) (b : ℕ) (s : State) (word marks : List ℕ) (c : ℕ) → word ≡ c ∷ [] → Whole head b s 3 (marks ++ word)
-    → Whole (behind_head head (called_by head.line.mute word)) b s 3 (marks ++ unless_called head.way (called_by head.line.mute word) word)
+    → Whole (after_head head (called_by head.line.mute word)) b s 3 (marks ++ unless_called head.way (called_by head.line.mute word) word)
 mark_whole_as head b s word marks c e w =
-    subst (λ (xs : List ℕ). Whole (behind_head head (called_by head.line.mute xs)) b s 3 (marks ++ unless_called head.way (called_by head.line.mute xs) xs)) (sym e)
+    subst (λ (xs : List ℕ). Whole (after_head head (called_by head.line.mute xs)) b s 3 (marks ++ unless_called head.way (called_by head.line.mute xs) xs)) (sym e)
     (called_nothing head b s 3 (marks ++ said_of head.way (c ∷ []))
     (whole_same head b s 3 (marks ++ word) (marks ++ said_of head.way (c ∷ []))
     (ap (λ (xs : List ℕ). marks ++ xs) (e ∙ said_one head.way c)) w))
 
 whole_by : (o : Option ℕ) (head : Head) (b : ℕ) (s : State) (word marks : List ℕ) → At head s (scans.Given false) word marks
     → none_or prints_words (called_by head.line.mute word) ≡ true → closing_mark false word ≡ o
-    → Whole (behind_head head (called_by head.line.mute word)) b s 3 (marks ++ unless_called head.way (called_by head.line.mute word) word)
+    → Whole (after_head head (called_by head.line.mute word)) b s 3 (marks ++ unless_called head.way (called_by head.line.mute word) word)
 whole_by None head b s word marks at f e = unmarked_whole (is_none s.page.marks) head b s word marks at e f refl
 whole_by (Some c) head b s word marks at f e =
-    mark_whole_as head b s word marks c (the_mark word c e) (mark_whole (is_due s.page) head b c s word marks at e refl)
+    mark_whole_as head b s word marks c (the_mark word c e) (mark_whole (is_pending s.page) head b c s word marks at e refl)
 
 pub given_whole : (head : Head) (b : ℕ) (s : State) (word marks : List ℕ) → At head s (scans.Given false) word marks
     → none_or prints_words (called_by head.line.mute word) ≡ true
-    → Whole (behind_head head (called_by head.line.mute word)) b s 3 (marks ++ unless_called head.way (called_by head.line.mute word) word)
+    → Whole (after_head head (called_by head.line.mute word)) b s 3 (marks ++ unless_called head.way (called_by head.line.mute word) word)
 given_whole head b s word marks at f = whole_by (closing_mark false word) head b s word marks at f refl

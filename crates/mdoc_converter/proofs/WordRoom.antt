@@ -16,12 +16,12 @@ use Rattle.mdoc_converter.specs.Keeping.{after_name, ends_escape, ends_word, in_
 use Rattle.mdoc_converter.specs.LayingOut.{lay_out}
 use Rattle.mdoc_converter.specs.Options.{is_heading, is_shown, reads_for}
 use Rattle.mdoc_converter.specs.Reading.{State, said}
-use Rattle.mdoc_converter.specs.Scanning.{meet, meet_at}
-use Rattle.mdoc_converter.specs.Seeing.{Met, met, left, taken}
+use Rattle.mdoc_converter.specs.Scanning.{offer, offer_at}
+use Rattle.mdoc_converter.specs.Seeing.{Offered, offered, left, taken}
 use Rattle.mdoc_converter.specs.WrittenLines.{is_escaped, is_plain, is_quotable}
 use Rattle.mdoc_converter.proofs.Escapes.{and_left, and_right, is_not}
 use Rattle.mdoc_converter.proofs.Given.{plain_reads}
-use Rattle.mdoc_converter.proofs.Meeting.{with_page, Takes, takes_by}
+use Rattle.mdoc_converter.proofs.Offering.{with_page, Takes, takes_by}
 use Rattle.mdoc_converter.proofs.Outcomes.{takes_as}
 use Rattle.mdoc_converter.proofs.Stepping.{In, Manner, in_as}
 use Rattle.mdoc_converter.proofs.Together.{same_whole, whole_kept}
@@ -104,11 +104,11 @@ pub record Kept (going : Bool) (head : Manner) (b : ℕ) (s : State) (scan : Sca
   pub at : In going head next scan word marks
   pub whole : is_whole next.page ≡ is_whole s.page
 
-keep_rest : ℕ → Bool → Page → Met
+keep_rest : ℕ → Bool → Page → Offered
 keep_rest c quoted p = if is_shown p then turns (scans.Long (within quoted)) (left acts.Nothing) p else keep_unshown c p
 
 pub kept_plain : (going quoted : Bool) (head : Manner) (b c : ℕ) (s : State) (scan : Scan) (word marks : List ℕ) → In going head s scan word marks → length word < 30
-    → meet b s.page ≡ keep c quoted (with_scan (in_word_of quoted) s.page) → Kept going head b s (in_word_of quoted) (word ++ c ∷ []) marks
+    → offer b s.page ≡ keep c quoted (with_scan (in_word_of quoted) s.page) → Kept going head b s (in_word_of quoted) (word ++ c ∷ []) marks
 unfolding said lay_out widened keep_rest
 kept_plain going quoted head b c s scan word marks at l e =
     let p = with_scan (in_word_of quoted) s.page in
@@ -119,7 +119,7 @@ kept_plain going quoted head b c s scan word marks at l e =
       takes =
           takes_by b s (widened wide q) (widened wide q) acts.Nothing acts.Nothing acts.Nothing []
           (e
-          ∙ ap (λ (t : Bool). if t then met (widens q) (taken acts.Nothing) else keep_rest c quoted p)
+          ∙ ap (λ (t : Bool). if t then offered (widens q) (taken acts.Nothing) else keep_rest c quoted p)
           (ap (λ (w : List ℕ). nat_lt (length w) 30) at.word_is ∙ room word l))
           refl refl;
       at =
@@ -129,13 +129,13 @@ kept_plain going quoted head b c s scan word marks at l e =
       whole = whole_widened wide s.page q refl refl;
     }
 
-escape_rest : ℕ → Bool → Page → Met
+escape_rest : ℕ → Bool → Page → Offered
 escape_rest c quoted p =
     if is_shown p then turns (scans.Long (within_escape quoted)) (left acts.Nothing) p
     else turns (in_word_of quoted) (taken acts.Nothing) (wider c p)
 
 kept_slashed : (going : Bool) (head : Manner) (b c : ℕ) (s : State) (scan here : Scan) (word marks : List ℕ) → In going head s scan word marks
-    → meet b s.page ≡ met (with_scan here (wider c (keeping (c ∷ []) (keeping (code "\\" ∷ []) s.page)))) (taken acts.Nothing)
+    → offer b s.page ≡ offered (with_scan here (wider c (keeping (c ∷ []) (keeping (code "\\" ∷ []) s.page)))) (taken acts.Nothing)
     → Kept going head b s here (word ++ code "\\" ∷ c ∷ []) marks
 unfolding said lay_out widened
 kept_slashed going head b c s scan here word marks at e =
@@ -148,8 +148,8 @@ kept_slashed going head b c s scan here word marks at e =
       takes =
           takes_by b s (widened wide q) (widened wide q) acts.Nothing acts.Nothing acts.Nothing []
           (e
-          ∙ ap (λ (ws : List ℕ). met (with_scan here (wider c (record p { word = ws }))) (taken acts.Nothing)) (append_assoc p.word (code "\\" ∷ []) (c ∷ []))
-          ∙ ap (λ (v : Page). met v (taken acts.Nothing)) (wider_is here (not (c == code "&")) (nat_lt p.call.width 9999) (keeping bytes p)))
+          ∙ ap (λ (ws : List ℕ). offered (with_scan here (wider c (record p { word = ws }))) (taken acts.Nothing)) (append_assoc p.word (code "\\" ∷ []) (c ∷ []))
+          ∙ ap (λ (v : Page). offered v (taken acts.Nothing)) (wider_is here (not (c == code "&")) (nat_lt p.call.width 9999) (keeping bytes p)))
           refl refl;
       at =
           widened_in wide going head s q here (word ++ bytes) marks
@@ -159,22 +159,22 @@ kept_slashed going head b c s scan here word marks at e =
     }
 
 pub kept_escape : (going quoted : Bool) (head : Manner) (b c : ℕ) (s : State) (scan : Scan) (word marks : List ℕ) → In going head s scan word marks → length word < 30
-    → meet b s.page ≡ keep_escape c quoted s.page → Kept going head b s (in_word_of quoted) (word ++ code "\\" ∷ c ∷ []) marks
+    → offer b s.page ≡ keep_escape c quoted s.page → Kept going head b s (in_word_of quoted) (word ++ code "\\" ∷ c ∷ []) marks
 unfolding escape_rest
 kept_escape going quoted head b c s scan word marks at l e =
     let p = s.page in
     let r = keeping (c ∷ []) (keeping (code "\\" ∷ []) p) in
     kept_slashed going head b c s scan (in_word_of quoted) word marks at
     (e
-    ∙ ap (λ (t : Bool). if t then met (with_scan (in_word_of quoted) (wider c r)) (taken acts.Nothing) else escape_rest c quoted p)
+    ∙ ap (λ (t : Bool). if t then offered (with_scan (in_word_of quoted) (wider c r)) (taken acts.Nothing) else escape_rest c quoted p)
     (ap (λ (w : List ℕ). nat_lt (length w) 30) at.word_is ∙ room word l))
 
 -- its name and its argument may come
-unfoldable pub begun_rest : ℕ → Bool → Met → Met
-begun_rest c quoted m = if m.seen.takes then met (with_scan (in_named (escape_then escapes.Begun c) quoted) m.page) m.seen else m
+unfoldable pub begun_rest : ℕ → Bool → Offered → Offered
+begun_rest c quoted m = if m.seen.takes then offered (with_scan (in_named (escape_then escapes.Begun c) quoted) m.page) m.seen else m
 
 pub kept_begun : (going quoted : Bool) (head : Manner) (b c : ℕ) (s : State) (scan : Scan) (word marks : List ℕ) → In going head s scan word marks → length word < 30
-    → meet b s.page ≡ keep_begun c quoted s.page
+    → offer b s.page ≡ keep_begun c quoted s.page
     → Kept going head b s (in_named (escape_then escapes.Begun c) quoted) (word ++ code "\\" ∷ c ∷ []) marks
 unfolding escape_rest begun_rest
 kept_begun going quoted head b c s scan word marks at l e =
@@ -182,18 +182,18 @@ kept_begun going quoted head b c s scan word marks at l e =
     let r = keeping (c ∷ []) (keeping (code "\\" ∷ []) p) in
     kept_slashed going head b c s scan (in_named (escape_then escapes.Begun c) quoted) word marks at
     (e
-    ∙ ap (λ (t : Bool). begun_rest c quoted (if t then met (with_scan (in_word_of quoted) (wider c r)) (taken acts.Nothing) else escape_rest c quoted p))
+    ∙ ap (λ (t : Bool). begun_rest c quoted (if t then offered (with_scan (in_word_of quoted) (wider c r)) (taken acts.Nothing) else escape_rest c quoted p))
     (ap (λ (w : List ℕ). nat_lt (length w) 30) at.word_is ∙ room word l))
 
 -- a byte of its name or its argument
-unfoldable pub named_rest : Bool → Reached → Bool → ℕ → Page → Met
+unfoldable pub named_rest : Bool → Reached → Bool → ℕ → Page → Offered
 named_rest t reached quoted b p =
     let here = in_named (escape_then reached b) quoted in
     if t then turns here (taken acts.Nothing) (keeping (b ∷ []) p) else
     if is_shown p then turns (scans.Long (insides.Named reached quoted)) (left acts.Nothing) p else turns here (taken acts.Nothing) p
 
 pub kept_named : (going quoted : Bool) (head : Manner) (reached : Reached) (b : ℕ) (s : State) (scan : Scan) (word marks : List ℕ) → In going head s scan word marks → length word < 30
-    → meet b s.page ≡ named_rest (nat_lt (length s.page.word) 30) reached quoted b s.page
+    → offer b s.page ≡ named_rest (nat_lt (length s.page.word) 30) reached quoted b s.page
     → Kept going head b s (in_named (escape_then reached b) quoted) (word ++ b ∷ []) marks
 unfolding said lay_out named_rest
 kept_named going quoted head reached b s scan word marks at l e =
@@ -229,46 +229,46 @@ shown going head s scan word marks at =
     shown_by head.plain s.page.call.taker at.fits
 
 pub full_plain : (going quoted : Bool) (head : Manner) (b c : ℕ) (s : State) (scan : Scan) (word marks : List ℕ) → In going head s scan word marks → 30 ≤ length word
-    → meet b s.page ≡ keep c quoted (with_scan (in_word_of quoted) s.page)
-    → meet b s.page ≡ met (with_scan (scans.Long (within quoted)) s.page) (left acts.Nothing)
+    → offer b s.page ≡ keep c quoted (with_scan (in_word_of quoted) s.page)
+    → offer b s.page ≡ offered (with_scan (scans.Long (within quoted)) s.page) (left acts.Nothing)
 unfolding keep_rest
 full_plain going quoted head b c s scan word marks at l e =
     let p = with_scan (in_word_of quoted) s.page in
     e
-    ∙ ap (λ (t : Bool). if t then met (widens (keeping (c ∷ []) p)) (taken acts.Nothing) else keep_rest c quoted p)
+    ∙ ap (λ (t : Bool). if t then offered (widens (keeping (c ∷ []) p)) (taken acts.Nothing) else keep_rest c quoted p)
     (ap (λ (w : List ℕ). nat_lt (length w) 30) at.word_is ∙ no_room word l)
     ∙ ap (λ (t : Bool). if t then turns (scans.Long (within quoted)) (left acts.Nothing) p else keep_unshown c p)
     (shown going head s scan word marks at)
 
 pub full_escape : (going quoted : Bool) (head : Manner) (b c : ℕ) (s : State) (scan : Scan) (word marks : List ℕ) → In going head s scan word marks → 30 ≤ length word
-    → meet b s.page ≡ keep_escape c quoted s.page
-    → meet b s.page ≡ met (with_scan (scans.Long (within_escape quoted)) s.page) (left acts.Nothing)
+    → offer b s.page ≡ keep_escape c quoted s.page
+    → offer b s.page ≡ offered (with_scan (scans.Long (within_escape quoted)) s.page) (left acts.Nothing)
 unfolding escape_rest
 full_escape going quoted head b c s scan word marks at l e =
     let p = s.page in
     let r = keeping (c ∷ []) (keeping (code "\\" ∷ []) p) in
     e
-    ∙ ap (λ (t : Bool). if t then met (with_scan (in_word_of quoted) (wider c r)) (taken acts.Nothing) else escape_rest c quoted p)
+    ∙ ap (λ (t : Bool). if t then offered (with_scan (in_word_of quoted) (wider c r)) (taken acts.Nothing) else escape_rest c quoted p)
     (ap (λ (w : List ℕ). nat_lt (length w) 30) at.word_is ∙ no_room word l)
     ∙ ap (λ (t : Bool). if t then turns (scans.Long (within_escape quoted)) (left acts.Nothing) p else turns (in_word_of quoted) (taken acts.Nothing) (wider c p))
     (shown going head s scan word marks at)
 
 pub full_begun : (going quoted : Bool) (head : Manner) (b c : ℕ) (s : State) (scan : Scan) (word marks : List ℕ) → In going head s scan word marks → 30 ≤ length word
-    → meet b s.page ≡ keep_begun c quoted s.page
-    → meet b s.page ≡ met (with_scan (scans.Long (within_escape quoted)) s.page) (left acts.Nothing)
+    → offer b s.page ≡ keep_begun c quoted s.page
+    → offer b s.page ≡ offered (with_scan (scans.Long (within_escape quoted)) s.page) (left acts.Nothing)
 unfolding escape_rest begun_rest
 full_begun going quoted head b c s scan word marks at l e =
     let p = s.page in
     let r = keeping (c ∷ []) (keeping (code "\\" ∷ []) p) in
     e
-    ∙ ap (λ (t : Bool). begun_rest c quoted (if t then met (with_scan (in_word_of quoted) (wider c r)) (taken acts.Nothing) else escape_rest c quoted p))
+    ∙ ap (λ (t : Bool). begun_rest c quoted (if t then offered (with_scan (in_word_of quoted) (wider c r)) (taken acts.Nothing) else escape_rest c quoted p))
     (ap (λ (w : List ℕ). nat_lt (length w) 30) at.word_is ∙ no_room word l)
     ∙ ap (λ (t : Bool). begun_rest c quoted (if t then turns (scans.Long (within_escape quoted)) (left acts.Nothing) p else turns (in_word_of quoted) (taken acts.Nothing) (wider c p)))
     (shown going head s scan word marks at)
 
 pub full_named : (going quoted : Bool) (head : Manner) (reached : Reached) (b : ℕ) (s : State) (scan : Scan) (word marks : List ℕ) → In going head s scan word marks → 30 ≤ length word
-    → meet b s.page ≡ named_rest (nat_lt (length s.page.word) 30) reached quoted b s.page
-    → meet b s.page ≡ met (with_scan (scans.Long (insides.Named reached quoted)) s.page) (left acts.Nothing)
+    → offer b s.page ≡ named_rest (nat_lt (length s.page.word) 30) reached quoted b s.page
+    → offer b s.page ≡ offered (with_scan (scans.Long (insides.Named reached quoted)) s.page) (left acts.Nothing)
 unfolding named_rest
 full_named going quoted head reached b s scan word marks at l e =
     let p = s.page in
@@ -281,15 +281,15 @@ full_named going quoted head reached b s scan word marks at l e =
 -- ---- in an escape
 
 -- its name or its argument is read
-pub named_met : (quoted : Bool) (reached : Reached) (b : ℕ) (p : Page) (t : Bool) → p.scan ≡ scans.Named reached quoted → ends_escape b ≡ t
-    → meet b p ≡ (if t then after_name quoted b p else named_rest (nat_lt (length p.word) 30) reached quoted b p)
-unfolding meet named_rest
-named_met quoted reached b p t at e =
-    ap (λ (sc : Scan). meet_at sc b p) at
+pub named_offered : (quoted : Bool) (reached : Reached) (b : ℕ) (p : Page) (t : Bool) → p.scan ≡ scans.Named reached quoted → ends_escape b ≡ t
+    → offer b p ≡ (if t then after_name quoted b p else named_rest (nat_lt (length p.word) 30) reached quoted b p)
+unfolding offer named_rest
+named_offered quoted reached b p t at e =
+    ap (λ (sc : Scan). offer_at sc b p) at
     ∙ ap (λ (u : Bool). if u then after_name quoted b p else named_rest (nat_lt (length p.word) 30) reached quoted b p) e
 
--- what ends it is met as in the word
-pub after_met : (quoted : Bool) (b : ℕ) (p : Page) → after_name quoted b p ≡ meet b (with_scan (in_word_of quoted) p)
-unfolding meet
-after_met true b p = refl
-after_met false b p = refl
+-- what ends it is offered as in the word
+pub after_offered : (quoted : Bool) (b : ℕ) (p : Page) → after_name quoted b p ≡ offer b (with_scan (in_word_of quoted) p)
+unfolding offer
+after_offered true b p = refl
+after_offered false b p = refl

@@ -1,13 +1,13 @@
 -- Bytes that pass at once.
 use Rattle.std.specs.Prelude.{◌≡◌, ℕ, ◌+◌, List, [], ◌∷◌, length, Bool, true, false, ◌==◌, if◌then◌else◌}
 use Prim.Native.Char.{code}
-use Rattle.mdoc_converter.specs.declared.page.Front.TheVariants.{Comment, Other}
+use Rattle.mdoc_converter.specs.declared.page.Prefix.TheVariants.{Comment, Other}
 use Rattle.mdoc_converter.specs.declared.page.Scan.{Scan}
 use Rattle.mdoc_converter.specs.declared.page.Scan.TheVariants as scans
 use Rattle.mdoc_converter.specs.declared.pending.Pending.{Pending}
 use Rattle.mdoc_converter.specs.declared.pending.Pending.TheVariants.{Nothing}
 use Rattle.mdoc_converter.specs.declared.reader.Reader.{Reader}
-use Rattle.mdoc_converter.specs.Reading.{State, told, fed}
+use Rattle.mdoc_converter.specs.Reading.{State, emitted, fed}
 
 -- in a line that passes, of a page that is not known to be one of mdoc, or after the first lines
 abbrev pub may_pass : Scan → Bool
@@ -37,4 +37,4 @@ passing r bs = passing_by r.pending r.page.scan bs
 
 -- these bytes go out as they are, each in one step, and leave what is half read
 abbrev pub Passes : State → List ℕ → Type 0
-Passes s bs = fed s bs ≡ told s bs (length bs)
+Passes s bs = fed s bs ≡ emitted s bs (length bs)

@@ -16,7 +16,7 @@ use Rattle.mdoc_converter.specs.declared.page.Page.{Page}
 use Rattle.mdoc_converter.specs.declared.seen.Seen.{Seen}
 use Rattle.mdoc_converter.specs.Columns.{gap}
 use Rattle.mdoc_converter.specs.Options.{at_most, is_column, none}
-use Rattle.mdoc_converter.specs.Seeing.{Met, met, left, two, three, with_stack}
+use Rattle.mdoc_converter.specs.Seeing.{Offered, offered, left, two, three, with_stack}
 
 -- ---- blocks
 
@@ -78,9 +78,9 @@ space compact = if compact then acts.Fresh else acts.Space
 
 -- ---- a block begins and ends
 
-abbrev pub block_opens : Kind → Page → Met
+abbrev pub block_opens : Kind → Page → Offered
 block_opens kind p =
-    met (record p { block = fresh_block kind (inner p.block) }) (with_stack Opens (left acts.Fresh))
+    offered (record p { block = fresh_block kind (inner p.block) }) (with_stack Opens (left acts.Fresh))
 
 abbrev pub indent : Page → Act
 indent p = acts.Sized sizes.Indent (at_most 999 p.block.offset)
@@ -89,47 +89,47 @@ indent p = acts.Sized sizes.Indent (at_most 999 p.block.offset)
 abbrev pub stops : Page → Act
 stops p = if p.block.columns == 0 then acts.Nothing else acts.Stops (gap p.block.columns)
 
-abbrev pub list_begins : Page → Met
+abbrev pub list_begins : Page → Offered
 list_begins p =
-    met p (if is_column p.block.kind
+    offered p (if is_column p.block.kind
     then three (space p.block.compact) (indent p) (stops p) else left (indent p))
 
 abbrev pub with_literal : Bool → Page → Page
 with_literal literal p = record p { lay = record p.lay { literal = literal } }
 
 -- its lines stay
-abbrev pub literal : Act → Act → Request → Page → Met
-literal space indent request p = met (with_literal true p) (three space indent (acts.Request request))
+abbrev pub literal : Act → Act → Request → Page → Offered
+literal space indent request p = offered (with_literal true p) (three space indent (acts.Request request))
 
-abbrev pub display_begins_of : Kind → Page → Met
+abbrev pub display_begins_of : Kind → Page → Offered
 display_begins_of kinds.Literal p = literal (space p.block.compact) (indent p) requests.Literal p
 display_begins_of kinds.Unfilled p = literal (space p.block.compact) (indent p) requests.Unfilled p
 display_begins_of kinds.Centered p = literal (space p.block.compact) (indent p) requests.Centered p
-display_begins_of kind p = met p (two (space p.block.compact) (indent p))
+display_begins_of kind p = offered p (two (space p.block.compact) (indent p))
 
-abbrev pub display_begins : Page → Met
+abbrev pub display_begins : Page → Offered
 display_begins p = display_begins_of p.block.kind p
 
-abbrev pub list_ends : Page → Met
+abbrev pub list_ends : Page → Offered
 list_ends p =
     if not (is_list p.block.kind) then none p else
     if not (is_column p.block.kind)
-    then met p (with_stack Closes (left (acts.Request requests.IndentEnds))) else
-    met p (with_stack Closes (two (acts.Request requests.Tabs) (acts.Request requests.IndentEnds)))
+    then offered p (with_stack Closes (left (acts.Request requests.IndentEnds))) else
+    offered p (with_stack Closes (two (acts.Request requests.Tabs) (acts.Request requests.IndentEnds)))
 
-abbrev pub literal_ends : Request → Page → Met
+abbrev pub literal_ends : Request → Page → Offered
 literal_ends request p =
-    met (with_literal false p)
+    offered (with_literal false p)
     (with_stack Closes (two (acts.Request request) (acts.Request requests.IndentEnds)))
 
-abbrev pub display_ends_of : Kind → Page → Met
+abbrev pub display_ends_of : Kind → Page → Offered
 display_ends_of kinds.Literal p = literal_ends requests.LiteralEnds p
 display_ends_of kinds.Unfilled p = literal_ends requests.LiteralEnds p
 display_ends_of kinds.Centered p = literal_ends requests.CenteredEnds p
-display_ends_of kinds.Filled p = met p (with_stack Closes (left (acts.Request requests.IndentEnds)))
+display_ends_of kinds.Filled p = offered p (with_stack Closes (left (acts.Request requests.IndentEnds)))
 display_ends_of kind p = none p
 
-abbrev pub display_ends : Page → Met
+abbrev pub display_ends : Page → Offered
 display_ends p = display_ends_of p.block.kind p
 
 -- the item around what ended goes on, as far to the right as its text
@@ -140,8 +140,8 @@ outer_goes_on act p =
 abbrev pub taking : Font → Page → Page
 taking font p = record p { call = record p.call { taker = macros.Words font } }
 
-abbrev pub line_opens : Page → Met
-line_opens p = met (taking Roman p) (left (acts.Sized sizes.Indent (inner p.block + 6)))
+abbrev pub line_opens : Page → Offered
+line_opens p = offered (taking Roman p) (left (acts.Sized sizes.Indent (inner p.block + 6)))
 
 -- ---- items
 
@@ -190,10 +190,10 @@ before_item p =
     if stands_close p.block || not p.block.begun then space (stands_close p.block) else
     if is_bare p then acts.Fresh else acts.Request requests.Space
 
-abbrev pub item : Page → Met
+abbrev pub item : Page → Offered
 item p =
     if not (is_list p.block.kind) then none (new_item p) else
-    met (counted_item (new_item p))
+    offered (counted_item (new_item p))
     (two (before_item p) (item_head (counted_item (new_item p))))
 
 -- two blanks stand between a tag and its text, or the tag stands alone; that of `-hang` goes on

@@ -1,4 +1,4 @@
--- Macros are called (mdoc(7), MACRO SYNTAX): what is due from the one before, and what they say before their words.
+-- Macros are called (mdoc(7), MACRO SYNTAX): what is pending from the one before, and what they say before their words.
 use Rattle.std.specs.Prelude.{◌≡◌, ℕ, ◌+◌, ◌-◌, List, [], ◌∷◌, ◌++◌, length, take, slice_index, Bool, true, false, not, ◌==◌, ◌&&◌, nat_lt, if◌then◌else◌, Option, None, Some}
 use Prim.Native.Char.{code}
 use Rattle.mdoc_converter.specs.declared.acts.Act.TheVariants as acts
@@ -20,7 +20,7 @@ use Rattle.mdoc_converter.specs.declared.page.Section.{Section}
 use Rattle.mdoc_converter.specs.declared.page.Section.TheVariants.{Synopsis}
 use Rattle.mdoc_converter.specs.declared.seen.Seen.{Seen}
 use Rattle.mdoc_converter.specs.Macros.{macro_of, is_callable}
-use Rattle.mdoc_converter.specs.Seeing.{Met, met, left, two}
+use Rattle.mdoc_converter.specs.Seeing.{Offered, offered, left, two}
 use Rattle.mdoc_converter.specs.Texts.{closer}
 
 -- ---- what a word is
@@ -47,8 +47,8 @@ with_place pl p = record p { place = pl }
 abbrev pub with_scan : Scan → Page → Page
 with_scan s p = record p { scan = s }
 
-abbrev pub seen_with : Page → Met → Met
-seen_with p m = met p m.seen
+abbrev pub seen_with : Page → Offered → Offered
+seen_with p m = offered p m.seen
 
 -- ---- macros that stand for text where they took no word
 
@@ -72,24 +72,24 @@ is_opened_by (macros.Encloses pair) = true
 is_opened_by (macros.Opens pair) = not (is_nothing pair)
 is_opened_by m = false
 
-abbrev pub is_enclosure_due : Page → Bool
-is_enclosure_due p = is_opened_by p.call.taker && not p.call.some
+abbrev pub is_enclosure_pending : Page → Bool
+is_enclosure_pending p = is_opened_by p.call.taker && not p.call.some
 
-abbrev pub is_due_from : Macro → Bool → Bool → Bool
-is_due_from macros.Flag some named = not some
-is_due_from macros.Argument some named = not some
-is_due_from macros.Path some named = not some
-is_due_from macros.Mail some named = not some
-is_due_from macros.Att some named = not some
-is_due_from macros.Bsd some named = not some
-is_due_from (macros.Stands system) some named = not some
-is_due_from macros.Name some named = not some && named
-is_due_from macros.Function some named = some
-is_due_from macros.Link some named = some
-is_due_from m some named = is_opened_by m && not some
+abbrev pub is_pending_from : Macro → Bool → Bool → Bool
+is_pending_from macros.Flag some named = not some
+is_pending_from macros.Argument some named = not some
+is_pending_from macros.Path some named = not some
+is_pending_from macros.Mail some named = not some
+is_pending_from macros.Att some named = not some
+is_pending_from macros.Bsd some named = not some
+is_pending_from (macros.Stands system) some named = not some
+is_pending_from macros.Name some named = not some && named
+is_pending_from macros.Function some named = some
+is_pending_from macros.Link some named = some
+is_pending_from m some named = is_opened_by m && not some
 
-abbrev pub is_due : Page → Bool
-is_due p = is_due_from p.call.taker p.call.some (not (is_none p.name))
+abbrev pub is_pending : Page → Bool
+is_pending p = is_pending_from p.call.taker p.call.some (not (is_none p.name))
 
 abbrev pub takes_no_more : Page → Page
 takes_no_more p = with_call (record p.call { taker = macros.Words Roman; first = false; some = true }) p
@@ -102,14 +102,14 @@ abbrev pub after_name : Page → Page
 after_name p = record p { place = record p.place { last = lasts.Name }; lay = record p.lay { kept = true } }
 
 -- a synopsis sets the name apart from what it hangs after
-abbrev pub own_name : Page → Met
+abbrev pub own_name : Page → Offered
 own_name p =
-    if heads_line p then met (after_name p) (two (acts.Hanging (hanging p.place.width)) acts.Own)
-    else met p (left acts.Own)
+    if heads_line p then offered (after_name p) (two (acts.Hanging (hanging p.place.width)) acts.Own)
+    else offered p (left acts.Own)
 
-abbrev pub function_closes : Page → Met
+abbrev pub function_closes : Page → Offered
 function_closes p =
-    met (with_place (record p.place { parameters = Outside }) p)
+    offered (with_place (record p.place { parameters = Outside }) p)
     (if is_synopsis p then two (acts.Close texts.FunctionEnds) (acts.Request requests.HangEnds)
     else left (acts.Close (texts.Closing (code ")"))))
 
@@ -119,33 +119,33 @@ link_closes p =
     if p.call.listed then two (acts.Close texts.Colon) (acts.Text texts.Link)
     else two acts.Fresh (acts.Text texts.Link)
 
-abbrev pub due_from : Macro → Page → Met
-due_from macros.Flag p = met p (left (acts.Text texts.Dash))
-due_from macros.Argument p = met p (two (acts.Text texts.File) (acts.Text texts.Dots))
-due_from macros.Path p = met p (left (acts.Text texts.Home))
-due_from macros.Mail p = met p (left (acts.Text texts.Home))
-due_from macros.Att p = met p (left (acts.Text texts.Att))
-due_from macros.Bsd p = met p (left (acts.Text texts.Bsd))
-due_from (macros.Stands system) p = met p (left (acts.Text (texts.System system)))
-due_from macros.Name p = own_name p
-due_from macros.Function p = function_closes p
-due_from macros.Link p = met p (link_closes p)
-due_from (macros.Encloses pair) p = met p (two (acts.Text (texts.Opening pair)) acts.Join)
-due_from (macros.Opens pair) p = met p (two (acts.Text (texts.Opening pair)) acts.Join)
-due_from m p = met p (left acts.Nothing)
+abbrev pub pending_from : Macro → Page → Offered
+pending_from macros.Flag p = offered p (left (acts.Text texts.Dash))
+pending_from macros.Argument p = offered p (two (acts.Text texts.File) (acts.Text texts.Dots))
+pending_from macros.Path p = offered p (left (acts.Text texts.Home))
+pending_from macros.Mail p = offered p (left (acts.Text texts.Home))
+pending_from macros.Att p = offered p (left (acts.Text texts.Att))
+pending_from macros.Bsd p = offered p (left (acts.Text texts.Bsd))
+pending_from (macros.Stands system) p = offered p (left (acts.Text (texts.System system)))
+pending_from macros.Name p = own_name p
+pending_from macros.Function p = function_closes p
+pending_from macros.Link p = offered p (link_closes p)
+pending_from (macros.Encloses pair) p = offered p (two (acts.Text (texts.Opening pair)) acts.Join)
+pending_from (macros.Opens pair) p = offered p (two (acts.Text (texts.Opening pair)) acts.Join)
+pending_from m p = offered p (left acts.Nothing)
 
-abbrev pub due : Page → Met
-due p = due_from p.call.taker p
+abbrev pub pending : Page → Offered
+pending p = pending_from p.call.taker p
 
-unfoldable pub leaves : Page → Met
-leaves p = seen_with (takes_no_more (due p).page) (due p)
+unfoldable pub leaves : Page → Offered
+leaves p = seen_with (takes_no_more (pending p).page) (pending p)
 
 -- ---- enclosures
 
 -- to the end of the line: what closes it is kept
-abbrev pub encloses : Pair → Page → Met
+abbrev pub encloses : Pair → Page → Offered
 encloses pair p =
-    met (if nat_lt (length p.closers) 8 then record p { closers = p.closers ++ closer pair ∷ [] } else p)
+    offered (if nat_lt (length p.closers) 8 then record p { closers = p.closers ++ closer pair ∷ [] } else p)
     (left acts.Nothing)
 
 abbrev pub deeper : Page → Page
@@ -156,12 +156,12 @@ shallower p =
     if nat_lt 0 p.place.depth then with_place (record p.place { depth = p.place.depth - 1 }) p else p
 
 -- to its partner, on this line or another, which ends no sentence
-abbrev pub opens : Page → Met
-opens p = met (deeper p) (left acts.Nothing)
+abbrev pub opens : Page → Offered
+opens p = offered (deeper p) (left acts.Nothing)
 
-abbrev pub closes : Pair → Page → Met
+abbrev pub closes : Pair → Page → Offered
 closes pair p =
-    met (shallower p)
+    offered (shallower p)
     (if is_nothing pair then left acts.Apart
     else two (acts.Close (texts.Closing (closer pair))) (acts.Close texts.Empty))
 
@@ -171,17 +171,17 @@ closes pair p =
 abbrev pub joins : Page → Seen
 joins p = if p.call.first then left acts.Nothing else left acts.Join
 
-abbrev pub called : Macro → Page → Met
+abbrev pub called : Macro → Page → Offered
 called (macros.Encloses pair) p = encloses pair p
 called (macros.Opens pair) p = opens p
 called (macros.Closes pair) p = closes pair p
-called macros.Joins p = met p (joins p)
-called macros.Apostrophe p = met p (two (acts.Close texts.Apostrophe) acts.Join)
+called macros.Joins p = offered p (joins p)
+called macros.Apostrophe p = offered p (two (acts.Close texts.Apostrophe) acts.Join)
 called macros.FunctionCloses p = function_closes p
-called macros.Cell p = met p (left acts.Cell)
-called m p = met p (left acts.Nothing)
+called macros.Cell p = offered p (left acts.Cell)
+called m p = offered p (left acts.Nothing)
 
-abbrev pub calls : Macro → Page → Met
+abbrev pub calls : Macro → Page → Offered
 calls m p =
     called m
     (record p {
@@ -199,8 +199,8 @@ is_flag macros.Flag = true
 is_flag m = false
 
 -- a dash that no word followed joins what the next macro says
-abbrev pub joining : Bool → Met → Met
-joining joins m = if joins then met m.page (record m.seen { second = acts.Join }) else m
+abbrev pub joining : Bool → Offered → Offered
+joining joins m = if joins then offered m.page (record m.seen { second = acts.Join }) else m
 
 -- ---- an address of mail in angle brackets stands between signs
 
@@ -222,13 +222,13 @@ encloses_address m p = is_in_angles p.call.taker && is_mail m && ends_in_angle p
 abbrev pub has_closer : Page → Type 0
 has_closer p = ends_in_angle p.closers ≡ true
 
-abbrev pub opens_address : Page → Met
+abbrev pub opens_address : Page → Offered
 opens_address p =
     let closers = take (length p.closers - 1) p.closers ++ closer pairs.Signs ∷ [] in
-    met (takes_no_more (record p { closers = closers }))
+    offered (takes_no_more (record p { closers = closers }))
     (two (acts.Text (texts.Opening pairs.Signs)) acts.Join)
 
-unfoldable pub call : Macro → Page → Met
+unfoldable pub call : Macro → Page → Offered
 call m p =
-    if not (is_due p) then calls m p else
+    if not (is_pending p) then calls m p else
     if encloses_address m p then opens_address p else joining (is_flag p.call.taker) (leaves p)

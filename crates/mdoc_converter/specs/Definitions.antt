@@ -7,7 +7,7 @@ use Rattle.mdoc_converter.specs.declared.page.Dots.TheVariants as dots
 use Rattle.mdoc_converter.specs.declared.page.Page.{Page}
 use Rattle.mdoc_converter.specs.declared.page.Scan.TheVariants as scans
 use Rattle.mdoc_converter.specs.Keeping.{turns}
-use Rattle.mdoc_converter.specs.Seeing.{Met, met, taken}
+use Rattle.mdoc_converter.specs.Seeing.{Offered, offered, taken}
 
 -- a name stands at this place of names, two bytes after one another
 abbrev pub is_at : List ℕ → ℕ → ℕ → ℕ → Bool
@@ -44,9 +44,9 @@ abbrev pub keep_own : Page → Page
 keep_own p = with_name p.word p
 
 -- the words of the line that begins a definition: names are among them
-abbrev pub in_definition : ℕ → Page → Met
+abbrev pub in_definition : ℕ → Page → Offered
 in_definition b p =
     if (b == code " ") || (b == code "\t")
-    then met (record (keep_own p) { word = [] }) (taken (acts.Byte b)) else
+    then offered (record (keep_own p) { word = [] }) (taken (acts.Byte b)) else
     if b == code "\n" then turns (scans.Ignored dots.Start) (taken (acts.Byte b)) (keep_own p) else
-    met (if is_full p.word then p else record p { word = p.word ++ b ∷ [] }) (taken (acts.Byte b))
+    offered (if is_full p.word then p else record p { word = p.word ++ b ∷ [] }) (taken (acts.Byte b))

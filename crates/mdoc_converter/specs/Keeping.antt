@@ -15,18 +15,18 @@ use Rattle.mdoc_converter.specs.declared.seen.Seen.{Seen}
 use Rattle.mdoc_converter.specs.Calls.{with_scan, is_synopsis, is_none}
 use Rattle.mdoc_converter.specs.Escaping.{escape_then}
 use Rattle.mdoc_converter.specs.Options.{is_shown, reads_for}
-use Rattle.mdoc_converter.specs.Seeing.{Met, met, left, taken}
+use Rattle.mdoc_converter.specs.Seeing.{Offered, offered, left, taken}
 use Rattle.mdoc_converter.specs.Taking.{is_outside}
 
 abbrev pub ends_word : ℕ → Bool
 ends_word b = (b == code " ") || (b == code "\t") || (b == code "\n")
 
-abbrev pub turns : Scan → Seen → Page → Met
-turns scan seen p = met (with_scan scan p) seen
+abbrev pub turns : Scan → Seen → Page → Offered
+turns scan seen p = offered (with_scan scan p) seen
 
 -- ---- words
 
-abbrev pub word_begins : Scan → Seen → Page → Met
+abbrev pub word_begins : Scan → Seen → Page → Offered
 word_begins scan seen p = turns scan seen (record p { word = []; call = record p.call { width = 0 } })
 
 abbrev pub widens : Page → Page
@@ -55,15 +55,15 @@ abbrev pub after_prefix : Page → Page
 after_prefix p = record p { title = p.word; word = codes "\\*(%T" }
 
 -- of another word that isn't printed a byte is only counted
-unfoldable pub keep_unshown : ℕ → Page → Met
+unfoldable pub keep_unshown : ℕ → Page → Offered
 keep_unshown b p =
-    if is_titling p then met (widens (keeping (b ∷ []) (after_prefix p))) (taken acts.TitlePrefix)
-    else met (widens p) (taken acts.Nothing)
+    if is_titling p then offered (widens (keeping (b ∷ []) (after_prefix p))) (taken acts.TitlePrefix)
+    else offered (widens p) (taken acts.Nothing)
 
 -- thirty bytes of a word are kept; more go out in parts
-abbrev pub keep : ℕ → Bool → Page → Met
+abbrev pub keep : ℕ → Bool → Page → Offered
 keep b quoted p =
-    if nat_lt (length p.word) 30 then met (widens (keeping (b ∷ []) p)) (taken acts.Nothing) else
+    if nat_lt (length p.word) 30 then offered (widens (keeping (b ∷ []) p)) (taken acts.Nothing) else
     if is_shown p then turns (scans.Long (within quoted)) (left acts.Nothing) p else keep_unshown b p
 
 abbrev pub in_word_of : Bool → Scan
@@ -73,7 +73,7 @@ in_word_of quoted = if quoted then scans.Quoted else scans.Word
 abbrev pub wider : ℕ → Page → Page
 wider b p = if not (b == code "&") then widens p else p
 
-abbrev pub keep_escape : ℕ → Bool → Page → Met
+abbrev pub keep_escape : ℕ → Bool → Page → Offered
 keep_escape b quoted p =
     if nat_lt (length p.word) 30
     then turns (in_word_of quoted) (taken acts.Nothing)
@@ -111,7 +111,7 @@ abbrev pub is_dash : Page → Bool
 is_dash p = has_dashes p.call.taker && ends_in_hyphen p.word
 
 -- another hyphen that doesn't begin its word is kept as an escape, since no line is broken after that
-abbrev pub keep_byte : ℕ → Bool → Page → Met
+abbrev pub keep_byte : ℕ → Bool → Page → Offered
 keep_byte b quoted p =
     if (b == code "-") && not (is_none p.word) && (not (is_looked_up p) || is_dash p)
     then keep_escape b quoted p else keep b quoted p
@@ -126,17 +126,17 @@ abbrev pub is_whole : Page → Bool
 is_whole p = whole_for p.call.taker p
 
 -- a blank that stays with what it stands between
-abbrev pub keep_blank : Page → Met
+abbrev pub keep_blank : Page → Offered
 keep_blank p =
     if nat_lt (length p.word) 30 then keep_escape (code "~") true p
     else turns (scans.Long insides.Quoted) (left acts.Nothing) p
 
-abbrev pub in_word : ℕ → Page → Met
+abbrev pub in_word : ℕ → Page → Offered
 in_word b p =
     if ends_word b then turns (scans.Given false) (left acts.Nothing) p else
     if b == code "\\" then turns scans.Escape (taken acts.Nothing) p else keep_byte b false p
 
-abbrev pub in_quotes : ℕ → Page → Met
+abbrev pub in_quotes : ℕ → Page → Offered
 in_quotes b p =
     if b == code "\"" then turns scans.Closing (taken acts.Nothing) p else
     if b == code "\n" then turns (scans.Given true) (left acts.Nothing) p else
@@ -144,26 +144,26 @@ in_quotes b p =
     if (b == code " ") && is_whole p then keep_blank p else keep_byte b true p
 
 -- two quotes within quotes are one
-abbrev pub keep_quote : Page → Met
+abbrev pub keep_quote : Page → Offered
 keep_quote p =
     if not (nat_lt (length p.word) 30) && is_shown p
     then turns (scans.Long insides.Closing) (left acts.Nothing) p
     else keep (code "\"") true (with_scan scans.Quoted p)
 
-abbrev pub closing : ℕ → Page → Met
+abbrev pub closing : ℕ → Page → Offered
 closing b p =
     if b == code "\"" then keep_quote p else turns (scans.Given true) (left acts.Nothing) p
 
 -- ---- escapes and comments in words
 
-abbrev pub comment : Bool → Page → Met
+abbrev pub comment : Bool → Page → Offered
 comment quoted p =
     turns (if is_none p.word && not p.call.going then scans.Between else scans.Given quoted)
     (left acts.Nothing)
     (record p { call = record p.call { comment = true } })
 
 -- a line goes on with the next: a word that was not begun may begin there
-abbrev pub continued : Bool → Page → Met
+abbrev pub continued : Bool → Page → Offered
 continued quoted p =
     turns (if not quoted && is_none p.word && not p.call.going then scans.Between else in_word_of quoted)
     (taken acts.Nothing) p
@@ -174,13 +174,13 @@ in_named None quoted = in_word_of quoted
 in_named (Some escape) quoted = scans.Named escape quoted
 
 -- an escape is kept, and its name or its argument may come
-abbrev pub keep_begun : ℕ → Bool → Page → Met
+abbrev pub keep_begun : ℕ → Bool → Page → Offered
 keep_begun b quoted p =
     let m = keep_escape b quoted p in
-    if m.seen.takes then met (with_scan (in_named (escape_then escapes.Begun b) quoted) m.page) m.seen else m
+    if m.seen.takes then offered (with_scan (in_named (escape_then escapes.Begun b) quoted) m.page) m.seen else m
 
 -- a line whose last byte is a backslash goes on with the next
-abbrev pub in_escape : ℕ → Bool → Page → Met
+abbrev pub in_escape : ℕ → Bool → Page → Offered
 in_escape b quoted p =
     if b == code "\"" then comment quoted p else
     if b == code "\n" then continued quoted p else keep_begun b quoted p
@@ -189,12 +189,12 @@ in_escape b quoted p =
 abbrev pub ends_escape : ℕ → Bool
 ends_escape b = ends_word b || (b == code "\"") || (b == code "\\")
 
-abbrev pub after_name : Bool → ℕ → Page → Met
+abbrev pub after_name : Bool → ℕ → Page → Offered
 after_name quoted b p =
     let q = with_scan (in_word_of quoted) p in if quoted then in_quotes b q else in_word b q
 
 -- in the name or the argument of an escape its bytes stay as they are
-abbrev pub in_name_of : Escape → Bool → ℕ → Page → Met
+abbrev pub in_name_of : Escape → Bool → ℕ → Page → Offered
 in_name_of escape quoted b p =
     let then_scan = in_named (escape_then escape b) quoted in
     if ends_escape b then after_name quoted b p else

@@ -23,12 +23,12 @@ abbrev pub laid : Page → List ℕ → Laid
 laid p bytes = record { page = p; bytes = bytes }
 
 -- these bytes, and then what comes
-abbrev pub behind : List ℕ → Laid → Laid
-behind bytes l = record { page = l.page; bytes = bytes ++ l.bytes }
+abbrev pub preceded : List ℕ → Laid → Laid
+preceded bytes l = record { page = l.page; bytes = bytes ++ l.bytes }
 
 -- first the one, then the other
 abbrev pub then_laid : Laid → (Page → Laid) → Laid
-then_laid l next = behind l.bytes (next l.page)
+then_laid l next = preceded l.bytes (next l.page)
 
 -- and then these bytes
 abbrev pub with_end : List ℕ → Laid → Laid
@@ -111,12 +111,12 @@ word_end p = if ends_sentence p.word then codes "\\&" else []
 -- the font of a word ends, unless more of the word comes
 abbrev pub end_word : Font → Page → Laid
 end_word font p =
-    if p.lay.front then laid (with_lay (record p.lay { front = false; font = font }) p) []
+    if p.lay.partial then laid (with_lay (record p.lay { partial = false; font = font }) p) []
     else laid p (word_end p ++ font_end font)
 
 abbrev pub put_word : Bool → Font → Page → Laid
 put_word joined font p =
-    behind (gap joined (first_in font p.word) p ++ font_begin font ++ before_hyphen p.word ++ p.word)
+    preceded (gap joined (first_in font p.word) p ++ font_begin font ++ before_hyphen p.word ++ p.word)
     (end_word font (was_put p))
 
 abbrev pub put_more : Page → Laid
@@ -129,7 +129,7 @@ put_last_more p =
 
 abbrev pub put_flag : Page → Laid
 put_flag p =
-    behind (gap (is_joined p) (code "\\") p ++ codes "\\fB\\-" ++ before_hyphen p.word ++ p.word)
+    preceded (gap (is_joined p) (code "\\") p ++ codes "\\fB\\-" ++ before_hyphen p.word ++ p.word)
     (end_word Bold (was_put p))
 
 -- a name in bold
@@ -182,7 +182,7 @@ put_library None p = put_other_library p
 put_library (Some text) p = put (is_joined p) (before_nul text) p
 
 abbrev pub put_release : Page → Laid
-put_release p = behind (codes "-") (put_word true Roman p)
+put_release p = preceded (codes "-") (put_word true Roman p)
 
 -- the head of an item of `-diag`: blanks stand after it, which what comes next joins
 abbrev pub put_head_end : Page → Laid

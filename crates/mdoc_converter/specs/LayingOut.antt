@@ -7,7 +7,7 @@ use Rattle.mdoc_converter.specs.Columns.{put_cell, put_column, put_row, put_stop
 use Rattle.mdoc_converter.specs.Laying.{Laid, laid, with_lay, put, is_joined, end_line, lay_word}
 use Rattle.mdoc_converter.specs.OwnLines.{freshen, end_tag, end_hang, quiet_down, put_space, put_request, put_sized, put_hanging, put_tag, put_numbered, put_title, put_title_prefix, end_title, put_head, put_control, put_naming}
 use Rattle.mdoc_converter.specs.References.{put_part_begin, put_reference}
-use Rattle.mdoc_converter.specs.Texts.{text_of, front_of}
+use Rattle.mdoc_converter.specs.Texts.{text_of, prefix_of}
 
 abbrev pub lay_column : Act → Page → Laid
 lay_column acts.Columns p = put_head (codes ".ds %c") p
@@ -43,7 +43,7 @@ unfoldable pub lay_out : Act → Page → Laid
 lay_out acts.Nothing p = laid p []
 lay_out (acts.Byte b) p = laid p (b ∷ [])
 lay_out acts.Hyphen p = laid p (codes "\\-")
-lay_out (acts.Front front) p = laid p (front_of front)
+lay_out (acts.Prefix prefix) p = laid p (prefix_of prefix)
 lay_out (acts.Begin b) p = put p.lay.joined (b ∷ []) p
 lay_out (acts.Text text) p = put (is_joined p) (text_of text) p
 lay_out (acts.Close text) p = put true (text_of text) p

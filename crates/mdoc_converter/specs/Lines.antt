@@ -10,7 +10,7 @@ use Rattle.mdoc_converter.specs.declared.acts.Text.TheVariants as texts
 use Rattle.mdoc_converter.specs.declared.macros.Font.TheVariants.{Roman}
 use Rattle.mdoc_converter.specs.declared.macros.Macro.{Macro}
 use Rattle.mdoc_converter.specs.declared.macros.Macro.TheVariants as macros
-use Rattle.mdoc_converter.specs.declared.page.Behind.TheVariants as behinds
+use Rattle.mdoc_converter.specs.declared.page.Following.TheVariants as followings
 use Rattle.mdoc_converter.specs.declared.page.Call.{Call}
 use Rattle.mdoc_converter.specs.declared.page.Kind.{Kind}
 use Rattle.mdoc_converter.specs.declared.page.Kind.TheVariants as kinds
@@ -28,8 +28,8 @@ use Rattle.mdoc_converter.specs.Blocks.{block_opens, item, item_ends, list_begin
 use Rattle.mdoc_converter.specs.Definitions.{is_own}
 use Rattle.mdoc_converter.specs.Macros.{macro_of}
 use Rattle.mdoc_converter.specs.Options.{none}
-use Rattle.mdoc_converter.specs.Seeing.{Met, met, left, two, three, and_taken, with_stack}
-use Rattle.mdoc_converter.specs.Calls.{called, is_due, leaves, is_none, is_synopsis, with_place, with_scan}
+use Rattle.mdoc_converter.specs.Seeing.{Offered, offered, left, two, three, and_taken, with_stack}
+use Rattle.mdoc_converter.specs.Calls.{called, is_pending, leaves, is_none, is_synopsis, with_place, with_scan}
 
 -- names of macros begin with a capital letter, or with a percent sign
 abbrev pub is_request : List ℕ → Bool
@@ -54,7 +54,7 @@ call_of m = record {
   some = false;
   listed = false;
   many = false;
-  behind = behinds.Nothing;
+  following = followings.Nothing;
   going = false;
   comment = false;
   wanted = wanteds.Option;
@@ -94,34 +94,34 @@ line_before kind p = if stands_after p.place.last kind then acts.Request request
 abbrev pub after : Last → Page → Page
 after kind p = with_place (record p.place { last = kind }) p
 
-abbrev pub synopsis_line : Last → Page → Met
-synopsis_line kind p = if not (is_synopsis p) then none p else met (after kind p) (left (line_before kind p))
+abbrev pub synopsis_line : Last → Page → Offered
+synopsis_line kind p = if not (is_synopsis p) then none p else offered (after kind p) (left (line_before kind p))
 
 -- a function hangs
-abbrev pub function_line : Page → Met
+abbrev pub function_line : Page → Offered
 function_line p =
     if not (is_synopsis p) then none p else
-    met (after lasts.Function p) (two (line_before lasts.Function p) (acts.Request requests.Hangs))
+    offered (after lasts.Function p) (two (line_before lasts.Function p) (acts.Request requests.Hangs))
 
-abbrev pub include_line : Page → Met
+abbrev pub include_line : Page → Offered
 include_line p =
     if not (is_synopsis p) then none p else
-    met (after lasts.Include p) (two (line_before lasts.Include p) (acts.Text texts.Include))
+    offered (after lasts.Include p) (two (line_before lasts.Include p) (acts.Text texts.Include))
 
 -- ---- titles and sections
 
-abbrev pub titles : Page → Met
+abbrev pub titles : Page → Offered
 titles p = none (record p { title = []; chapter = [] })
 
-abbrev pub silent : Page → Met
+abbrev pub silent : Page → Offered
 silent p = none (with_scan scans.Dropped p)
 
 -- the title's line goes out once: with the system, or where no title came before that, with the first section
-abbrev pub system : Page → Met
+abbrev pub system : Page → Offered
 system p =
     if p.place.titled || is_none p.title
     then silent (record p { call = record p.call { line = macros.Silent } })
-    else met p (left acts.Title)
+    else offered p (left acts.Title)
 
 abbrev pub heads : Page → Page
 heads p =
@@ -145,38 +145,38 @@ in_section p =
     let q = heads p in
     record q { place = record q.place { section = sections.Other; split = splits.Never } }
 
-abbrev pub section : Page → Met
+abbrev pub section : Page → Offered
 section p =
-    met (in_section p) (if p.place.titled then heading acts.Section p
+    offered (in_section p) (if p.place.titled then heading acts.Section p
     else with_stack Empties (three acts.Title acts.TitleEnds acts.Section))
 
-abbrev pub subsection : Page → Met
-subsection p = met (heads p) (heading acts.Subsection p)
+abbrev pub subsection : Page → Offered
+subsection p = offered (heads p) (heading acts.Subsection p)
 
-abbrev pub paragraph : Page → Met
-paragraph p = met (after lasts.Heading p) (left acts.Space)
+abbrev pub paragraph : Page → Offered
+paragraph p = offered (after lasts.Heading p) (left acts.Space)
 
 -- space that the page itself asks for passes, but after space that was made
-abbrev pub asks_space : Page → Met
-asks_space p = if p.lay.quiet then silent p else met (with_scan scans.Rest p) (left acts.Control)
+abbrev pub asks_space : Page → Offered
+asks_space p = if p.lay.quiet then silent p else offered (with_scan scans.Rest p) (left acts.Control)
 
-abbrev pub defines : Page → Met
-defines p = met (with_scan scans.Defines p) (left acts.Control)
+abbrev pub defines : Page → Offered
+defines p = offered (with_scan scans.Defines p) (left acts.Control)
 
 -- the words of a line stay together between `.Bk` and `.Ek`
-abbrev pub keeps : Bool → Page → Met
+abbrev pub keeps : Bool → Page → Offered
 keeps kept p = silent (record p { lay = record p.lay { kept = kept } })
 
 -- ---- tables: no space stands before one; what divides one prints nothing outside of one
 
-abbrev pub table : Page → Met
+abbrev pub table : Page → Offered
 table p =
     if bytes_eq p.word (codes "TS")
-    then met (with_scan (scans.Table rows.Rest) p) (two (acts.Request requests.NoDistance) acts.Control)
+    then offered (with_scan (scans.Table rows.Rest) p) (two (acts.Request requests.NoDistance) acts.Control)
     else silent p
 
-abbrev pub table_ends : Page → Met
-table_ends p = met (with_scan scans.Rest p) (left acts.Control)
+abbrev pub table_ends : Page → Offered
+table_ends p = offered (with_scan scans.Rest p) (left acts.Control)
 
 -- ---- references
 
@@ -184,25 +184,25 @@ abbrev pub is_see_also : Section → Bool
 is_see_also sections.SeeAlso = true
 is_see_also s = false
 
-abbrev pub book : Page → Met
+abbrev pub book : Page → Offered
 book p =
-    met (record p { place = record p.place { reference = true; authors = 0 }; parts = [] })
+    offered (record p { place = record p.place { reference = true; authors = 0 }; parts = [] })
     (left (if is_see_also p.place.section then acts.Space else acts.Nothing))
 
-abbrev pub book_ends : Page → Met
+abbrev pub book_ends : Page → Offered
 book_ends p =
-    if not p.place.reference then none p else met (with_place (record p.place { reference = false }) p)
+    if not p.place.reference then none p else offered (with_place (record p.place { reference = false }) p)
     (left acts.Reference)
 
-abbrev pub part_begins : ℕ → Page → Met
-part_begins letter p = if not p.place.reference then none p else met p (two (acts.Part letter) acts.Join)
+abbrev pub part_begins : ℕ → Page → Offered
+part_begins letter p = if not p.place.reference then none p else offered p (two (acts.Part letter) acts.Join)
 
 abbrev pub part_ends : Page → Seen
 part_ends p = left (if p.place.reference then acts.Fresh else acts.Close texts.Empty)
 
 -- ---- a line begins
 
-abbrev pub begins_block : Macro → Page → Met
+abbrev pub begins_block : Macro → Page → Offered
 begins_block macros.List p = block_opens kinds.Item p
 begins_block macros.Display p = block_opens kinds.Filled p
 begins_block macros.Item p = item p
@@ -219,13 +219,13 @@ begins_block macros.Configuration p = synopsis_line lasts.Configuration p
 begins_block macros.Include p = include_line p
 begins_block m p = called m p
 
-unfoldable pub begins : Macro → Page → Met
+unfoldable pub begins : Macro → Page → Offered
 begins macros.Title p = titles p
 begins macros.System p = system p
 begins macros.Section p = section p
 begins macros.Subsection p = subsection p
 begins macros.Paragraph p = paragraph p
-begins macros.Describes p = met p (left (acts.Text texts.Description))
+begins macros.Describes p = offered p (left (acts.Text texts.Description))
 begins macros.Silent p = silent p
 begins macros.Spaces p = asks_space p
 begins macros.Defines p = defines p
@@ -236,9 +236,9 @@ begins macros.Keeps p = keeps true p
 begins macros.KeepEnds p = keeps false p
 begins macros.Table p = table p
 begins macros.TableEnds p = table_ends p
-begins macros.FontEnds p = met p (left (acts.Request (requests.Font Roman)))
-begins macros.Exits p = met p (two (acts.Request requests.Break) (acts.Text texts.The))
-begins macros.Returns p = met p (left (acts.Request requests.Break))
+begins macros.FontEnds p = offered p (left (acts.Request (requests.Font Roman)))
+begins macros.Exits p = offered p (two (acts.Request requests.Break) (acts.Text texts.The))
+begins macros.Returns p = offered p (left (acts.Request requests.Break))
 begins m p = begins_block m p
 
 abbrev pub is_condition : List ℕ → Bool
@@ -256,17 +256,17 @@ under_condition p =
     then record p { place = record p.place { section = sections.Condition } } else p
 
 -- requests pass, and macros of the page's own; the words of a macro that is none are printed
-abbrev pub other_line : Page → Met
+abbrev pub other_line : Page → Offered
 other_line p =
     if is_request p.word || is_own p
-    then met (with_scan scans.Rest (under_condition p)) (left acts.Control) else
+    then offered (with_scan scans.Rest (under_condition p)) (left acts.Control) else
     none (record p { call = call_of (macros.Words Roman) })
 
-abbrev pub begins_or_other : Option Macro → Page → Met
+abbrev pub begins_or_other : Option Macro → Page → Offered
 begins_or_other None p = other_line p
 begins_or_other (Some m) p = begins m (record p { call = call_of m })
 
-abbrev pub named_line : Page → Met
+abbrev pub named_line : Page → Offered
 named_line p = begins_or_other (macro_of p.word) (record p { scan = scans.Between; closers = [] })
 
 -- ---- a line ends
@@ -287,25 +287,25 @@ abbrev pub turned : Page → Page
 turned p = if not p.call.some then record p { lay = record p.lay { spaced = not p.lay.spaced } } else p
 
 -- without a word the spacing turns; a joint stays where words join
-abbrev pub spacing : Page → Met
+abbrev pub spacing : Page → Offered
 spacing p =
     let q = turned p in none (record q { lay = record q.lay { joined = q.lay.joined && not q.lay.spaced } })
 
-unfoldable pub end_of : Macro → Page → Met
-end_of macros.Section p = met p (left acts.Quiet)
-end_of macros.Subsection p = met p (left acts.Quiet)
-end_of macros.System p = met p (left acts.TitleEnds)
+unfoldable pub end_of : Macro → Page → Offered
+end_of macros.Section p = offered p (left acts.Quiet)
+end_of macros.Subsection p = offered p (left acts.Quiet)
+end_of macros.System p = offered p (left acts.TitleEnds)
 end_of macros.List p = list_begins p
 end_of macros.Display p = display_begins p
-end_of macros.ListEnds p = met p (outer_goes_on (acts.Request requests.Distance) p)
-end_of macros.DisplayEnds p = met p (outer_goes_on acts.Nothing p)
-end_of macros.Line p = met p (outer_goes_on (acts.Request requests.IndentEnds) p)
-end_of macros.LiteralLine p = met p (outer_goes_on (acts.Request requests.IndentEnds) p)
-end_of macros.Item p = met p (item_ends p)
-end_of macros.Declaration p = met p (left (acts.Request requests.Break))
-end_of (macros.Part letter) p = met p (part_ends p)
-end_of macros.Exits p = met p (exits p)
-end_of macros.Returns p = met p (returns p)
+end_of macros.ListEnds p = offered p (outer_goes_on (acts.Request requests.Distance) p)
+end_of macros.DisplayEnds p = offered p (outer_goes_on acts.Nothing p)
+end_of macros.Line p = offered p (outer_goes_on (acts.Request requests.IndentEnds) p)
+end_of macros.LiteralLine p = offered p (outer_goes_on (acts.Request requests.IndentEnds) p)
+end_of macros.Item p = offered p (item_ends p)
+end_of macros.Declaration p = offered p (left (acts.Request requests.Break))
+end_of (macros.Part letter) p = offered p (part_ends p)
+end_of macros.Exits p = offered p (exits p)
+end_of macros.Returns p = offered p (returns p)
 end_of macros.Spacing p = spacing p
 end_of m p = none p
 
@@ -320,9 +320,9 @@ last_act p = if p.lay.tag && (p.place.depth == 0) then tag_ends p else acts.Ends
 abbrev pub ended_seen : Page → Seen → Seen
 ended_seen p seen = if is_nothing seen.third then record seen { third = last_act p } else seen
 
-unfoldable pub line_ends : Page → Met
+unfoldable pub line_ends : Page → Offered
 line_ends p =
-    let m = end_of p.call.line p in met (with_scan scans.Start m.page) (ended_seen m.page (and_taken m.seen))
+    let m = end_of p.call.line p in offered (with_scan scans.Start m.page) (ended_seen m.page (and_taken m.seen))
 
 abbrev pub is_some_closer : Page → Type 0
 is_some_closer p = is_none p.closers ≡ false
@@ -336,15 +336,15 @@ abbrev pub ends_joined : Page → Bool
 ends_joined p = is_joins p.call.taker && not p.call.some
 
 -- the last of the enclosures that the line opened is closed
-unfoldable pub closes_last : Page → Met
+unfoldable pub closes_last : Page → Offered
 closes_last p =
     let n = length p.closers - 1 in
     let close = acts.Close (texts.Closing (slice_index p.closers n)) in
-    met (record p { closers = take n p.closers }) (if ends_joined p then two close acts.Join else left close)
+    offered (record p { closers = take n p.closers }) (if ends_joined p then two close acts.Join else left close)
 
--- what is due comes first, then what closes enclosures, the last first, then marks, and then what ends the line
-abbrev pub ends : Page → Met
+-- what is pending comes first, then what closes enclosures, the last first, then marks, and then what ends the line
+abbrev pub ends : Page → Offered
 ends p =
-    if is_due p then leaves p else
+    if is_pending p then leaves p else
     if not (is_none p.closers) then closes_last p else
-    if not (is_none p.marks) then met p (left acts.Marks) else line_ends p
+    if not (is_none p.marks) then offered p (left acts.Marks) else line_ends p

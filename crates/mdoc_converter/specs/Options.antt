@@ -24,7 +24,7 @@ use Rattle.mdoc_converter.specs.declared.page.Split.TheVariants as splits
 use Rattle.mdoc_converter.specs.declared.page.Wanted.{Wanted}
 use Rattle.mdoc_converter.specs.declared.page.Wanted.TheVariants as wanteds
 use Rattle.mdoc_converter.specs.Lookup.{named_in}
-use Rattle.mdoc_converter.specs.Seeing.{Met, met, left, two, three}
+use Rattle.mdoc_converter.specs.Seeing.{Offered, offered, left, two, three}
 
 -- ---- what words say
 
@@ -96,8 +96,8 @@ is_shown p = not (reads_options p) || is_heading p.call.taker
 
 -- ---- dates, titles and headings
 
-abbrev pub none : Page → Met
-none p = met p (left acts.Nothing)
+abbrev pub none : Page → Offered
+none p = offered p (left acts.Nothing)
 
 abbrev pub dated : Page → Page
 dated p =
@@ -105,10 +105,10 @@ dated p =
     if length p.day == 0 then record p { day = p.word } else
     if length p.year == 0 then record p { year = p.word } else p
 
-abbrev pub date_word : Page → Met
+abbrev pub date_word : Page → Offered
 date_word p = if is_version p.word then none p else none (dated p)
 
-abbrev pub title_word : Page → Met
+abbrev pub title_word : Page → Offered
 title_word p =
     none (if not p.call.some then record p { title = p.word } else
     if length p.chapter == 0 then record p { chapter = p.word } else p)
@@ -128,21 +128,21 @@ enters p =
     record p { place = record p.place { section = s; split = splits_in s } }
 
 -- the words after the first are printed, and may call macros
-abbrev pub heading_word : Page → Met
+abbrev pub heading_word : Page → Offered
 heading_word p =
     let q = enters p in
-    met (record q { call = record q.call { taker = macros.Words Roman } }) (left (acts.Word Roman))
+    offered (record q { call = record q.call { taker = macros.Words Roman } }) (left (acts.Word Roman))
 
 -- ---- fonts, spacing, utilities and functions
 
-abbrev pub font_or : Option Font → Page → Met
+abbrev pub font_or : Option Font → Page → Offered
 font_or None p = none p
-font_or (Some font) p = met p (left (acts.Request (requests.Font font)))
+font_or (Some font) p = offered p (left (acts.Request (requests.Font font)))
 
-abbrev pub font_word : Page → Met
+abbrev pub font_word : Page → Offered
 font_word p = font_or (font_named p.word) p
 
-abbrev pub spacing_word : Page → Met
+abbrev pub spacing_word : Page → Offered
 spacing_word p = none (record p { lay = record p.lay { spaced = not (bytes_eq p.word (codes "off")) } })
 
 abbrev pub is_usual : Page → Bool
@@ -152,27 +152,27 @@ abbrev pub listed : Page → Page
 listed p = record p { call = record p.call { listed = true } }
 
 -- a name after the first is held back, as it may be the last: the one that was held back before it is not
-abbrev pub holds : Page → Met
+abbrev pub holds : Page → Offered
 holds p =
-    if length p.held == 0 then met (record p { held = p.word }) (left acts.Nothing) else
-    met (record p { call = record p.call { many = true } }) (left acts.Held)
+    if length p.held == 0 then offered (record p { held = p.word }) (left acts.Nothing) else
+    offered (record p { call = record p.call { many = true } }) (left acts.Held)
 
-abbrev pub utility : Page → Met
+abbrev pub utility : Page → Offered
 utility p =
-    if is_usual p then none p else if not p.call.listed then met (listed p) (left (acts.Word Bold))
+    if is_usual p then none p else if not p.call.listed then offered (listed p) (left (acts.Word Bold))
     else holds p
 
 -- the name of a function has parentheses
-abbrev pub holds_function : Page → Met
+abbrev pub holds_function : Page → Offered
 holds_function p =
     let m = holds p in
-    if m.page.call.many then met m.page (record m.seen { second = acts.Close texts.Parentheses }) else m
+    if m.page.call.many then offered m.page (record m.seen { second = acts.Close texts.Parentheses }) else m
 
-abbrev pub returning : Page → Met
+abbrev pub returning : Page → Offered
 returning p =
     if is_usual p then none p else
     if p.call.listed then holds_function p else
-    met (listed p) (three (acts.Text texts.The) (acts.Word Bold) (acts.Close texts.Parentheses))
+    offered (listed p) (three (acts.Text texts.The) (acts.Word Bold) (acts.Close texts.Parentheses))
 
 -- ---- options of lists and displays
 
@@ -201,15 +201,15 @@ offset_said p =
 abbrev pub wanting : Wanted → Block → Page → Page
 wanting w b p = record p { call = record p.call { wanted = w }; block = b }
 
-abbrev pub wide : Page → Met
+abbrev pub wide : Page → Offered
 wide p = none (wanting wanteds.Option (record p.block { width = Some (at_most 900 (width_said p)) }) p)
 
-abbrev pub indented : Page → Met
+abbrev pub indented : Page → Offered
 indented p =
     none (wanting wanteds.Option
     (record p.block { offset = at_most 900 p.block.offset + at_most 90 (offset_said p) }) p)
 
-abbrev pub wants : Wanted → Page → Met
+abbrev pub wants : Wanted → Page → Offered
 wants w p = none (record p { call = record p.call { wanted = w } })
 
 abbrev pub is_column : Kind → Bool
@@ -229,40 +229,40 @@ added_column p =
     }
 
 -- widths, one after the other
-abbrev pub tab_stop : ℕ → Page → Met
+abbrev pub tab_stop : ℕ → Page → Offered
 tab_stop width p =
-    if wants_column p.call.wanted then met p (left (acts.Column width)) else
-    met (record p { call = record p.call { wanted = wanteds.Column } }) (two acts.Columns (acts.Column width))
+    if wants_column p.call.wanted then offered p (left (acts.Column width)) else
+    offered (record p { call = record p.call { wanted = wanteds.Column } }) (two acts.Columns (acts.Column width))
 
 abbrev pub column_width : Page → ℕ
 column_width p = at_most 900 p.call.width
 
-abbrev pub column : Page → Met
+abbrev pub column : Page → Offered
 column p =
     if not (is_column p.block.kind) then none p else
     tab_stop (column_width p) (added_column p)
 
-abbrev pub block_asked : Option Asks → Page → Met
+abbrev pub block_asked : Option Asks → Page → Offered
 block_asked None p = column p
 block_asked (Some asks.Width) p = wants wanteds.Width p
 block_asked (Some asks.Offset) p = wants wanteds.Offset p
 block_asked (Some asks.Compact) p = none (record p { block = record p.block { compact = true } })
 block_asked (Some (asks.Kind kind)) p = none (record p { block = record p.block { kind = kind } })
 
-abbrev pub block_option : Page → Met
+abbrev pub block_option : Page → Offered
 block_option p = block_asked (asked p.word) p
 
-abbrev pub block_wanted : Wanted → Page → Met
+abbrev pub block_wanted : Wanted → Page → Offered
 block_wanted wanteds.Width p = wide p
 block_wanted wanteds.Offset p = indented p
 block_wanted w p = block_option p
 
-abbrev pub block_word : Page → Met
+abbrev pub block_word : Page → Offered
 block_word p = block_wanted p.call.wanted p
 
 -- ---- by the macro that takes the word
 
-abbrev pub option_for : Macro → Page → Met
+abbrev pub option_for : Macro → Page → Offered
 option_for macros.Date p = date_word p
 option_for macros.Title p = title_word p
 option_for macros.List p = block_word p
@@ -273,10 +273,10 @@ option_for macros.Exits p = utility p
 option_for macros.Returns p = returning p
 option_for m p = heading_word p
 
-unfoldable pub option_word : Page → Met
+unfoldable pub option_word : Page → Offered
 option_word p = option_for p.call.taker p
 
-abbrev pub option : Page → Met
+abbrev pub option : Page → Offered
 option p =
     let m = option_word (record p { scan = scans.Between }) in
-    met (record m.page { call = record m.page.call { some = true } }) m.seen
+    offered (record m.page { call = record m.page.call { some = true } }) m.seen

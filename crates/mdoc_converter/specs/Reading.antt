@@ -7,7 +7,7 @@ use Rattle.mdoc_converter.specs.declared.macros.Font.TheVariants.{Roman}
 use Rattle.mdoc_converter.specs.declared.macros.Macro.TheVariants as macros
 use Rattle.mdoc_converter.specs.declared.page.At.TheVariants as ats
 use Rattle.mdoc_converter.specs.declared.page.Block.{Block}
-use Rattle.mdoc_converter.specs.declared.page.Front.TheVariants as fronts
+use Rattle.mdoc_converter.specs.declared.page.Prefix.TheVariants as prefixes
 use Rattle.mdoc_converter.specs.declared.page.Last.TheVariants as lasts
 use Rattle.mdoc_converter.specs.declared.page.Lay.{Lay}
 use Rattle.mdoc_converter.specs.declared.page.Page.{Page}
@@ -28,10 +28,10 @@ use Rattle.mdoc_converter.specs.Laying.{Laid, then_laid}
 use Rattle.mdoc_converter.specs.LayingOut.{lay_out}
 use Rattle.mdoc_converter.specs.OwnLines.{line_end}
 use Rattle.mdoc_converter.specs.Lines.{call_of}
-use Rattle.mdoc_converter.specs.Scanning.{meet}
-use Rattle.mdoc_converter.specs.Seeing.{Met}
-use Rattle.mdoc_converter.specs.Strings.{met_by, takes_strings}
-use Rattle.mdoc_converter.specs.Texts.{front_of}
+use Rattle.mdoc_converter.specs.Scanning.{offer}
+use Rattle.mdoc_converter.specs.Seeing.{Offered}
+use Rattle.mdoc_converter.specs.Strings.{offered_by, takes_strings}
+use Rattle.mdoc_converter.specs.Texts.{prefix_of}
 use Rattle.mdoc_converter.specs.declared.strings.Next.{Next}
 use Rattle.mdoc_converter.specs.declared.strings.Next.TheVariants as nexts
 
@@ -44,22 +44,22 @@ pub record State : Type 0 where
 abbrev pub state : Reader → List Block → State
 state r blocks = record { page = r.page; pending = r.pending; blocks = blocks }
 
--- what is half read then, what goes out, and in how many steps: in each a byte meets what is half read
-pub record Told : Type 0 where
+-- what is half read then, what goes out, and in how many steps: in each a byte is offered to what is half read
+pub record Emitted : Type 0 where
   pub state : State
   pub bytes : List ℕ
   pub steps : ℕ
 
-abbrev pub told : State → List ℕ → ℕ → Told
-told s bytes steps = record { state = s; bytes = bytes; steps = steps }
+abbrev pub emitted : State → List ℕ → ℕ → Emitted
+emitted s bytes steps = record { state = s; bytes = bytes; steps = steps }
 
 -- these bytes, in so many steps, and then what comes
-abbrev pub behind : List ℕ → ℕ → Told → Told
-behind bytes steps t = record { state = t.state; bytes = bytes ++ t.bytes; steps = steps + t.steps }
+abbrev pub preceded : List ℕ → ℕ → Emitted → Emitted
+preceded bytes steps t = record { state = t.state; bytes = bytes ++ t.bytes; steps = steps + t.steps }
 
 -- first the one, then the other
-abbrev pub then_told : Told → (State → Told) → Told
-then_told t next = behind t.bytes t.steps (next t.state)
+abbrev pub then_emitted : Emitted → (State → Emitted) → Emitted
+then_emitted t next = preceded t.bytes t.steps (next t.state)
 
 -- ---- a page begins
 
@@ -74,7 +74,7 @@ first_lay = record {
   cell = 0;
   quiet = true;
   font = Roman;
-  front = false;
+  partial = false;
   bare = false;
 }
 
@@ -94,7 +94,7 @@ first_place = record {
 
 abbrev pub first_page : Page
 first_page = record {
-  scan = scans.Asleep fronts.Nothing 0;
+  scan = scans.Asleep prefixes.Nothing 0;
   word = [];
   marks = [];
   held = [];
@@ -119,7 +119,7 @@ first_reader = record { page = first_page; pending = Nothing }
 abbrev pub first_state : State
 first_state = state first_reader []
 
--- ---- a byte is met once
+-- ---- a byte is offered once
 
 unfoldable pub said : Seen → Page → Laid
 said seen p =
@@ -149,7 +149,7 @@ pub record Once : Type 0 where
   pub bytes : List ℕ
   pub takes : Bool
 
-abbrev pub once_seen : Met → Block → State → Once
+abbrev pub once_seen : Offered → Block → State → Once
 once_seen m outer s = record {
   state = stacked m.seen.stack outer (record s { page = (said m.seen m.page).page });
   bytes = (said m.seen m.page).bytes;
@@ -157,39 +157,39 @@ once_seen m outer s = record {
 }
 
 unfoldable pub once : ℕ → State → Once
-once b s = once_seen (meet b s.page) s.page.block s
+once b s = once_seen (offer b s.page) s.page.block s
 
--- ---- a byte is met until it is taken
+-- ---- a byte is offered until it is taken
 
-abbrev pub heard_in : ℕ → ℕ → State → Told
-heard_in zero b s = told s [] 0
+abbrev pub heard_in : ℕ → ℕ → State → Emitted
+heard_in zero b s = emitted s [] 0
 heard_in (suc n) b s =
-    let o = once b s in behind o.bytes 1 (if o.takes then told o.state [] 0 else heard_in n b o.state)
+    let o = once b s in preceded o.bytes 1 (if o.takes then emitted o.state [] 0 else heard_in n b o.state)
 
--- Sixteen times are enough: at a line's end its last word may be met five times, its enclosures are eight at most.
-unfoldable pub heard : ℕ → State → Told
+-- Sixteen times are enough: at a line's end its last word may be offered five times, its enclosures are eight at most.
+unfoldable pub heard : ℕ → State → Emitted
 heard b s = heard_in 16 b s
 
 -- ---- escapes that name strings: what they stand for is heard in their place
 
 -- a byte of such a text, which a NUL ends
-abbrev pub heard_some : ℕ → State → Told
-heard_some b s = if b == 0 then told s [] 0 else heard b s
+abbrev pub heard_some : ℕ → State → Emitted
+heard_some b s = if b == 0 then emitted s [] 0 else heard b s
 
-abbrev pub heard_text : ℕ → ℕ → ℕ → ℕ → State → Told
+abbrev pub heard_text : ℕ → ℕ → ℕ → ℕ → State → Emitted
 heard_text a b c d s =
-    then_told (then_told (then_told (heard_some a s) (λ t. heard_some b t)) (λ t. heard_some c t))
+    then_emitted (then_emitted (then_emitted (heard_some a s) (λ t. heard_some b t)) (λ t. heard_some c t))
     (λ t. heard_some d t)
 
-abbrev pub heard_star : State → Told
-heard_star s = then_told (heard (code "\\") s) (λ t. heard (code "*") t)
+abbrev pub heard_star : State → Emitted
+heard_star s = then_emitted (heard (code "\\") s) (λ t. heard (code "*") t)
 
-abbrev pub heard_then : (State → Told) → ℕ → State → Told
-heard_then f b s = then_told (f s) (λ t. heard b t)
+abbrev pub heard_then : (State → Emitted) → ℕ → State → Emitted
+heard_then f b s = then_emitted (f s) (λ t. heard b t)
 
 -- what was read of an escape that names no string is heard as it is
-abbrev pub heard_raw : Pending → State → Told
-heard_raw Nothing s = told s [] 0
+abbrev pub heard_raw : Pending → State → Emitted
+heard_raw Nothing s = emitted s [] 0
 heard_raw pendings.Backslash s = heard (code "\\") s
 heard_raw pendings.Star s = heard_star s
 heard_raw pendings.Open s = heard_then heard_star (code "(") s
@@ -201,37 +201,37 @@ heard_raw (pendings.Two a b) s = heard_then (heard_then (heard_then heard_star (
 abbrev pub with_pending : Pending → State → State
 with_pending pending s = record s { pending = pending }
 
-abbrev pub read_by : Next → ℕ → State → Told
-read_by (nexts.Waits pending) b s = told (with_pending pending s) [] 0
+abbrev pub read_by : Next → ℕ → State → Emitted
+read_by (nexts.Waits pending) b s = emitted (with_pending pending s) [] 0
 read_by (nexts.Says a b c d) byte s = heard_text a b c d (with_pending Nothing s)
-read_by nexts.Breaks b s = then_told (heard_raw s.pending (with_pending Nothing s)) (λ t. heard b t)
+read_by nexts.Breaks b s = then_emitted (heard_raw s.pending (with_pending Nothing s)) (λ t. heard b t)
 
-unfoldable pub read : ℕ → State → Told
-read b s = read_by (met_by s.pending b (takes_strings s.page.scan)) b s
+unfoldable pub read : ℕ → State → Emitted
+read b s = read_by (offered_by s.pending b (takes_strings s.page.scan)) b s
 
 -- ---- the end: a line that is begun ends, and all is put on a line
 
-unfoldable pub line_finished : State → Told
-line_finished s = let t = heard (code "\n") s in told t.state (t.bytes ++ line_end t.state.page) t.steps
+unfoldable pub line_finished : State → Emitted
+line_finished s = let t = heard (code "\n") s in emitted t.state (t.bytes ++ line_end t.state.page) t.steps
 
-abbrev pub finished_at : Scan → State → Told
-finished_at (scans.Asleep front lines) s = told s (front_of front) 0
-finished_at scans.Passes s = told s [] 0
-finished_at scans.Start s = told s (line_end s.page) 0
-finished_at (scans.Table rows.Start) s = told s (line_end s.page) 0
+abbrev pub finished_at : Scan → State → Emitted
+finished_at (scans.Asleep prefix lines) s = emitted s (prefix_of prefix) 0
+finished_at scans.Passes s = emitted s [] 0
+finished_at scans.Start s = emitted s (line_end s.page) 0
+finished_at (scans.Table rows.Start) s = emitted s (line_end s.page) 0
 finished_at scan s = line_finished s
 
-abbrev pub page_finished : State → Told
+abbrev pub page_finished : State → Emitted
 page_finished s = finished_at s.page.scan s
 
-unfoldable pub finished : State → Told
-finished s = then_told (heard_raw s.pending (with_pending Nothing s)) (λ t. page_finished t)
+unfoldable pub finished : State → Emitted
+finished s = then_emitted (heard_raw s.pending (with_pending Nothing s)) (λ t. page_finished t)
 
 -- ---- many bytes
 
-abbrev pub fed : State → List ℕ → Told
-fed s [] = told s [] 0
-fed s (b ∷ bs) = then_told (read b s) (λ t. fed t bs)
+abbrev pub fed : State → List ℕ → Emitted
+fed s [] = emitted s [] 0
+fed s (b ∷ bs) = then_emitted (read b s) (λ t. fed t bs)
 
 -- ---- the definition: what comes of all bytes of an input
 

@@ -26,7 +26,7 @@ more_authors p =
 abbrev pub put_author_head : Page → Laid
 put_author_head p = let l = put_head (author_head p.place.authors) p in laid (more_authors l.page) l.bytes
 
--- so many parts of a reference, the authors aside, are told apart
+-- so many parts of a reference, the authors aside, are distinguished
 abbrev pub most_parts : ℕ
 most_parts = 32
 

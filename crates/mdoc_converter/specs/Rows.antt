@@ -15,7 +15,7 @@ use Rattle.mdoc_converter.specs.Keeping.{ends_word, turns}
 use Rattle.mdoc_converter.specs.Laying.{is_control}
 use Rattle.mdoc_converter.specs.Lines.{is_request}
 use Rattle.mdoc_converter.specs.Macros.{macro_of}
-use Rattle.mdoc_converter.specs.Seeing.{Met, met, left, two, taken}
+use Rattle.mdoc_converter.specs.Seeing.{Offered, offered, left, two, taken}
 
 abbrev pub is_of_table : Option Macro → Bool
 is_of_table (Some macros.Table) = true
@@ -36,48 +36,48 @@ ends_table name = is_table_end (macro_of name)
 abbrev pub after_byte : Row → ℕ → Scan
 after_byte rest b = if b == code "\n" then scans.Table rows.Start else scans.Table rest
 
-abbrev pub row_passes : ℕ → Page → Met
+abbrev pub row_passes : ℕ → Page → Offered
 row_passes b p = turns (after_byte rows.Rest b) (taken (acts.Byte b)) p
 
-abbrev pub row_begins : ℕ → Page → Met
+abbrev pub row_begins : ℕ → Page → Offered
 row_begins b p =
     if is_control b then turns (scans.Table rows.Control) (taken acts.Nothing) p else row_passes b p
 
-abbrev pub after_row_control : ℕ → Page → Met
+abbrev pub after_row_control : ℕ → Page → Offered
 after_row_control b p =
-    if (b == code " ") || (b == code "\t") then met p (taken acts.Nothing) else
+    if (b == code " ") || (b == code "\t") then offered p (taken acts.Nothing) else
     if b == code "\n" then turns (scans.Table rows.Start) (taken acts.Nothing) p else
     if b == code "\\" then turns (scans.Table rows.Escape) (taken acts.Nothing) p else
     turns (scans.Table rows.Name) (taken acts.Nothing) (record p { word = b ∷ [] })
 
 -- comments are dropped
-abbrev pub after_row_escape : ℕ → Page → Met
+abbrev pub after_row_escape : ℕ → Page → Offered
 after_row_escape b p =
     if (b == code "\"") || (b == code "#") then turns (scans.Table rows.Comment) (taken acts.Nothing) p else
     turns (scans.Table rows.Rest) (left acts.Control) (record p { word = codes "\\" })
 
 -- of another line the words are text
-abbrev pub named_row : Page → Met
+abbrev pub named_row : Page → Offered
 named_row p =
     if ends_table p.word then turns scans.Rest (two (acts.Request requests.Distance) acts.Control) p else
     if passes p.word then turns (scans.Table rows.Rest) (left acts.Control) p else
     turns (scans.Table rows.Words) (left acts.Nothing) p
 
-abbrev pub in_row_name : ℕ → Page → Met
+abbrev pub in_row_name : ℕ → Page → Offered
 in_row_name b p =
     if ends_word b || (b == code "\\") || is_full p.word then named_row p else
-    met (record p { word = p.word ++ b ∷ [] }) (taken acts.Nothing)
+    offered (record p { word = p.word ++ b ∷ [] }) (taken acts.Nothing)
 
 -- such text must not be a control line
-abbrev pub row_words : ℕ → Page → Met
+abbrev pub row_words : ℕ → Page → Offered
 row_words b p =
-    if b == code " " then met p (taken acts.Nothing) else
+    if b == code " " then offered p (taken acts.Nothing) else
     if b == code "\n" then turns (scans.Table rows.Start) (taken acts.Nothing) p else
     if is_control b then
     turns (scans.Table rows.Rest) (two (acts.Byte (code "\\")) (acts.Byte (code "&"))) p else
     turns (scans.Table rows.Rest) (left acts.Nothing) p
 
-abbrev pub in_table : Row → ℕ → Page → Met
+abbrev pub in_table : Row → ℕ → Page → Offered
 in_table rows.Start b p = row_begins b p
 in_table rows.Control b p = after_row_control b p
 in_table rows.Escape b p = after_row_escape b p

@@ -10,17 +10,17 @@ use Rattle.mdoc_converter.specs.declared.seen.Seen.{Seen}
 use Rattle.mdoc_converter.specs.Laying.{gap, first_in, first_of, before_hyphen, is_joined, was_put, end_word, word_end}
 use Rattle.mdoc_converter.specs.LayingOut.{lay_out}
 use Rattle.mdoc_converter.specs.Reading.{State, once, heard}
-use Rattle.mdoc_converter.specs.Scanning.{meet}
+use Rattle.mdoc_converter.specs.Scanning.{offer}
 use Rattle.mdoc_converter.specs.Texts.{font_begin, font_end}
 
 -- the bytes of a word, or of marks, and what a macro adds before and after them
 pub record Part : Type 0 where
   pub before : List ℕ
   pub word : List ℕ
-  pub behind : List ℕ
+  pub following : List ℕ
 
 abbrev pub part : List ℕ → List ℕ → List ℕ → Part
-part before word behind = record { before = before; word = word; behind = behind }
+part before word following = record { before = before; word = word; following = following }
 
 abbrev pub part_word : Bool → Font → Page → Part
 part_word joined font p =
@@ -55,7 +55,7 @@ part_of acts.LastMore p = part (before_hyphen p.word) p.word (word_end p ++ font
 part_of acts.Marks p = part (gap true (first_of p.marks) p) p.marks []
 part_of act p = part (lay_out act p).bytes [] []
 
--- what one meeting says
+-- what one step says
 abbrev pub parts_seen : Seen → Page → List Part
 parts_seen seen p =
     let q = (lay_out seen.first p).page in
@@ -66,7 +66,7 @@ parts_seen seen p =
 abbrev pub parts_in : ℕ → ℕ → State → List Part
 parts_in zero b s = []
 parts_in (suc n) b s =
-    let m = meet b s.page in
+    let m = offer b s.page in
     parts_seen m.seen m.page ++ (if m.seen.takes then [] else parts_in n b (once b s).state)
 
 unfoldable pub parts_at : ℕ → State → List Part
@@ -78,15 +78,15 @@ parts_of s [] = []
 parts_of s (b ∷ bs) = parts_at b s ++ parts_of (heard b s).state bs
 
 -- what is half read after them
-abbrev pub state_behind : State → List ℕ → State
-state_behind s [] = s
-state_behind s (b ∷ bs) = state_behind (heard b s).state bs
+abbrev pub state_after : State → List ℕ → State
+state_after s [] = s
+state_after s (b ∷ bs) = state_after (heard b s).state bs
 
 -- ---- what goes out of parts, and what of that is words
 
 abbrev pub text_of : List Part → List ℕ
 text_of [] = []
-text_of (x ∷ xs) = (x.before ++ x.word ++ x.behind) ++ text_of xs
+text_of (x ∷ xs) = (x.before ++ x.word ++ x.following) ++ text_of xs
 
 abbrev pub words_of : List Part → List ℕ
 words_of [] = []

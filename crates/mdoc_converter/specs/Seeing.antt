@@ -8,14 +8,14 @@ use Rattle.mdoc_converter.specs.declared.seen.Seen.{Seen}
 use Rattle.mdoc_converter.specs.declared.page.Page.{Page}
 
 -- what is half read then, and what was seen
-pub record Met : Type 0 where
+pub record Offered : Type 0 where
   pub page : Page
   pub seen : Seen
 
-abbrev pub met : Page → Seen → Met
-met p seen = record { page = p; seen = seen }
+abbrev pub offered : Page → Seen → Offered
+offered p seen = record { page = p; seen = seen }
 
--- a byte that is left is met again
+-- a byte that is left is offered again
 abbrev pub three : Act → Act → Act → Seen
 three first second third =
     record { first = first; second = second; third = third; stack = Stay; takes = false }

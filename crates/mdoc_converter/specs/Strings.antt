@@ -32,7 +32,7 @@ row_takes_strings row = true
 
 -- not in lines that pass, nor before a macro's name has ended
 abbrev pub takes_strings : Scan → Bool
-takes_strings (scans.Asleep front lines) = false
+takes_strings (scans.Asleep prefix lines) = false
 takes_strings scans.Passes = false
 takes_strings scans.Comment = false
 takes_strings scans.Control = false
@@ -57,12 +57,12 @@ after_star b =
     if b == code "[" then Waits pendings.Bracket else named_by_one b
 
 -- what a byte does to what was read of an escape, or begins
-abbrev pub met_by : Pending → ℕ → Bool → Next
-met_by pendings.Nothing b takes = if takes && (b == code "\\") then Waits pendings.Backslash else Breaks
-met_by pendings.Backslash b takes = if b == code "*" then Waits pendings.Star else Breaks
-met_by pendings.Star b takes = after_star b
-met_by pendings.Open b takes = Waits (pendings.Pair b)
-met_by (pendings.Pair a) b takes = named a b
-met_by pendings.Bracket b takes = Waits (pendings.One b)
-met_by (pendings.One a) b takes = if b == code "]" then named_by_one a else Waits (pendings.Two a b)
-met_by (pendings.Two a c) b takes = if b == code "]" then named a c else Breaks
+abbrev pub offered_by : Pending → ℕ → Bool → Next
+offered_by pendings.Nothing b takes = if takes && (b == code "\\") then Waits pendings.Backslash else Breaks
+offered_by pendings.Backslash b takes = if b == code "*" then Waits pendings.Star else Breaks
+offered_by pendings.Star b takes = after_star b
+offered_by pendings.Open b takes = Waits (pendings.Pair b)
+offered_by (pendings.Pair a) b takes = named a b
+offered_by pendings.Bracket b takes = Waits (pendings.One b)
+offered_by (pendings.One a) b takes = if b == code "]" then named_by_one a else Waits (pendings.Two a b)
+offered_by (pendings.Two a c) b takes = if b == code "]" then named a c else Breaks

@@ -13,8 +13,8 @@ use Rattle.mdoc_converter.specs.declared.acts.Request.{Request}
 use Rattle.mdoc_converter.specs.declared.acts.Request.TheVariants as requests
 use Rattle.mdoc_converter.specs.declared.acts.Sized.{Sized}
 use Rattle.mdoc_converter.specs.declared.acts.Sized.TheVariants as sizes
-use Rattle.mdoc_converter.specs.declared.page.Front.{Front}
-use Rattle.mdoc_converter.specs.declared.page.Front.TheVariants as fronts
+use Rattle.mdoc_converter.specs.declared.page.Prefix.{Prefix}
+use Rattle.mdoc_converter.specs.declared.page.Prefix.TheVariants as prefixes
 
 -- what begins a font
 abbrev pub font_begin : Font → List ℕ
@@ -105,11 +105,11 @@ text_of texts.Returns = codes "function returns the value\\~0 if successful; oth
 text_of texts.AllReturn = codes "functions return the value\\~0 if successful; otherwise the value\\~\\-1 is returned and the global variable \\fIerrno\\fR is set to indicate the error."
 
 -- what was read of `.Dd`
-abbrev pub front_of : Front → List ℕ
-front_of fronts.Dot = codes "."
-front_of fronts.Half = codes ".D"
-front_of fronts.Whole = codes ".Dd"
-front_of front = []
+abbrev pub prefix_of : Prefix → List ℕ
+prefix_of prefixes.Dot = codes "."
+prefix_of prefixes.Half = codes ".D"
+prefix_of prefixes.Whole = codes ".Dd"
+prefix_of prefix = []
 
 -- a request, as a line
 abbrev pub request_of : Request → List ℕ

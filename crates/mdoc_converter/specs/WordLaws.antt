@@ -7,14 +7,14 @@ use Rattle.mdoc_converter.specs.declared.page.Page.{Page}
 use Rattle.mdoc_converter.specs.declared.page.Scan.{Scan}
 use Rattle.mdoc_converter.specs.declared.page.Scan.TheVariants as scans
 use Rattle.mdoc_converter.specs.declared.pending.Pending.TheVariants.{Nothing}
-use Rattle.mdoc_converter.specs.Calls.{is_due, with_scan}
+use Rattle.mdoc_converter.specs.Calls.{is_pending, with_scan}
 use Rattle.mdoc_converter.specs.Columns.{has_rows}
 use Rattle.mdoc_converter.specs.Laying.{Laid, laid, then_laid}
 use Rattle.mdoc_converter.specs.LayingOut.{lay_out}
 use Rattle.mdoc_converter.specs.Lines.{ends_joined}
 use Rattle.mdoc_converter.specs.Macros.{macro_of}
-use Rattle.mdoc_converter.specs.Reading.{State, behind, fed, heard_in}
-use Rattle.mdoc_converter.specs.Saying.{parts_of, state_behind, text_of, words_of}
+use Rattle.mdoc_converter.specs.Reading.{State, preceded, fed, heard_in}
+use Rattle.mdoc_converter.specs.Saying.{parts_of, state_after, text_of, words_of}
 use Rattle.mdoc_converter.specs.WrittenLines.{each, names_no_string, is_text, begins_text, is_plain, heads_words, is_mute, way_of, Word, are_written, is_first, headed, way_headed, line_of, printed_as, opens_block, row_said, Line, AskingLine, are_lines, written_line, written_lines, printed_line}
 
 -- ---- words
@@ -66,15 +66,15 @@ begins_block line = false
 abbrev pub has_room : State → List Line → Bool
 has_room s [] = true
 has_room s (l ∷ ls) =
-    (not (begins_block l) || nat_lt (length s.blocks) 64) && has_room (state_behind s (written_line l)) ls
+    (not (begins_block l) || nat_lt (length s.blocks) 64) && has_room (state_after s (written_line l)) ls
 
 -- what they say, where the blanks of these words between quotes stay together
 abbrev pub printed_lines : List (List Bool) → State → List Line → List ℕ
 printed_lines wholes s [] = []
 printed_lines [] s (l ∷ ls) =
-    printed_line [] s.page.block l ++ printed_lines [] (state_behind s (written_line l)) ls
+    printed_line [] s.page.block l ++ printed_lines [] (state_after s (written_line l)) ls
 printed_lines (whole ∷ wholes) s (l ∷ ls) =
-    printed_line whole s.page.block l ++ printed_lines wholes (state_behind s (written_line l)) ls
+    printed_line whole s.page.block l ++ printed_lines wholes (state_after s (written_line l)) ls
 
 -- in any state where no marks are held back, lines that follow one another say what each of them says, in order
 abbrev pub LinesAreSaid : Type 0
@@ -100,12 +100,12 @@ close_all (c ∷ cs) p = then_laid (close c p) (λ q. close_all cs q)
 abbrev pub with_closers : List ℕ → Page → Page
 with_closers cs p = record p { closers = cs }
 
--- in any state at the end of a line, where what is due was said: what closes its enclosures goes out, the last of them first, and
+-- in any state at the end of a line, where what is pending was said: what closes its enclosures goes out, the last of them first, and
 -- then the line ends as one that opened none
 abbrev pub LastIsClosedFirst : Type 0
 LastIsClosedFirst =
-    (n b : ℕ) (s : State) → s.page.scan ≡ scans.Ends → is_due s.page ≡ false →
+    (n b : ℕ) (s : State) → s.page.scan ≡ scans.Ends → is_pending s.page ≡ false →
     let cs = s.page.closers in
     let l = close_all (reverse cs) s.page in
-    heard_in (n + length cs) b s ≡ behind l.bytes (length cs)
+    heard_in (n + length cs) b s ≡ preceded l.bytes (length cs)
     (heard_in n b (record s { page = with_closers [] l.page }))

@@ -7,17 +7,17 @@ use Rattle.mdoc_converter.specs.declared.macros.Font.TheVariants.{Roman}
 use Rattle.mdoc_converter.specs.declared.macros.Macro.{Macro}
 use Rattle.mdoc_converter.specs.declared.macros.Macro.TheVariants as macros
 use Rattle.mdoc_converter.specs.declared.macros.Pair.TheVariants as pairs
-use Rattle.mdoc_converter.specs.declared.page.Behind.{Behind}
-use Rattle.mdoc_converter.specs.declared.page.Behind.TheVariants as behinds
+use Rattle.mdoc_converter.specs.declared.page.Following.{Following}
+use Rattle.mdoc_converter.specs.declared.page.Following.TheVariants as followings
 use Rattle.mdoc_converter.specs.declared.page.Inside.{Inside}
 use Rattle.mdoc_converter.specs.declared.page.Inside.TheVariants as insides
 use Rattle.mdoc_converter.specs.declared.page.Page.{Page}
 use Rattle.mdoc_converter.specs.declared.page.Scan.{Scan}
 use Rattle.mdoc_converter.specs.declared.page.Scan.TheVariants as scans
 use Rattle.mdoc_converter.specs.declared.seen.Seen.{Seen}
-use Rattle.mdoc_converter.specs.Calls.{called_by, with_call, with_scan, seen_with, is_none, is_enclosure_due, is_due, leaves, call}
+use Rattle.mdoc_converter.specs.Calls.{called_by, with_call, with_scan, seen_with, is_none, is_enclosure_pending, is_pending, leaves, call}
 use Rattle.mdoc_converter.specs.Options.{is_heading, option, reads_options}
-use Rattle.mdoc_converter.specs.Seeing.{Met, met, left, two, three}
+use Rattle.mdoc_converter.specs.Seeing.{Offered, offered, left, two, three}
 use Rattle.mdoc_converter.specs.Taking.{prefix, argument}
 
 abbrev pub is_closing : ℕ → Bool
@@ -63,11 +63,11 @@ takes_marks m = is_prefix m
 abbrev pub is_text : Page → Bool
 is_text p = not p.call.some && takes_marks p.call.taker
 
-abbrev pub mark_as_word : Page → Met
+abbrev pub mark_as_word : Page → Offered
 mark_as_word p =
     let q = with_scan scans.Between p in
     if is_prefix p.call.taker then prefix q else
-    met (with_call (record q.call { some = true }) q) (left (acts.Word Roman))
+    offered (with_call (record q.call { some = true }) q) (left (acts.Word Roman))
 
 -- a macro whose element a mark ends: after marks it begins another
 abbrev pub begins_anew : Macro → Bool
@@ -78,85 +78,85 @@ begins_anew macros.Mail = true
 begins_anew macros.Name = true
 begins_anew m = false
 
-abbrev pub taken_by_same : Macro → Met → Met
+abbrev pub taken_by_same : Macro → Offered → Offered
 taken_by_same m l = seen_with (with_call (record l.page.call { taker = m }) l.page) l
 
 -- a mark comes first: the macro stands for text
-unfoldable pub stands : Page → Met
+unfoldable pub stands : Page → Offered
 stands p = if begins_anew p.call.taker then taken_by_same p.call.taker (leaves p) else leaves p
 
-unfoldable pub mark : ℕ → Page → Met
+unfoldable pub mark : ℕ → Page → Offered
 mark b p =
-    if is_due p then stands p else
+    if is_pending p then stands p else
     if is_text p then mark_as_word p else
-    if length p.marks == most_marks then met p (left acts.Marks) else met (holding b p) (left acts.Nothing)
+    if length p.marks == most_marks then offered p (left acts.Marks) else offered (holding b p) (left acts.Nothing)
 
 -- ---- a word is whole
 
-abbrev pub read_or_called : Option Macro → Bool → Page → Met
+abbrev pub read_or_called : Option Macro → Bool → Page → Offered
 read_or_called None quoted p = argument quoted p
 read_or_called (Some m) quoted p = call m p
 
-unfoldable pub unmarked : Bool → Page → Met
+unfoldable pub unmarked : Bool → Page → Offered
 unmarked quoted p =
-    if not (is_none p.marks) then met p (left acts.Marks)
+    if not (is_none p.marks) then offered p (left acts.Marks)
     else read_or_called (called_by (quoted || p.call.plain) p.word) quoted p
 
-abbrev pub marked_or : Option ℕ → Bool → Page → Met
+abbrev pub marked_or : Option ℕ → Bool → Page → Offered
 marked_or None quoted p = unmarked quoted p
 marked_or (Some b) quoted p = mark b p
 
-unfoldable pub parsed : Bool → Page → Met
+unfoldable pub parsed : Bool → Page → Offered
 parsed quoted p = marked_or (closing_mark quoted p.word) quoted p
 
 -- its last part, and what stands after all of it
-abbrev pub after_long : Behind → Seen
-after_long behinds.Nothing = left acts.LastMore
-after_long behinds.Parenthesis = three acts.LastMore (acts.Close (texts.Opening pairs.Parentheses)) acts.Join
-after_long behinds.Angle = two acts.LastMore (acts.Close (texts.Closing (code ">")))
-after_long behinds.Joint = two acts.LastMore acts.Join
+abbrev pub after_long : Following → Seen
+after_long followings.Nothing = left acts.LastMore
+after_long followings.Parenthesis = three acts.LastMore (acts.Close (texts.Opening pairs.Parentheses)) acts.Join
+after_long followings.Angle = two acts.LastMore (acts.Close (texts.Closing (code ">")))
+after_long followings.Joint = two acts.LastMore acts.Join
 
 -- after the first word of a heading others are read as they are on other lines
-abbrev pub taken_behind : Macro → Macro
-taken_behind macros.Section = macros.Words Roman
-taken_behind m = m
+abbrev pub taken_after : Macro → Macro
+taken_after macros.Section = macros.Words Roman
+taken_after m = m
 
-abbrev pub ends_long : Page → Met
+abbrev pub ends_long : Page → Offered
 ends_long p =
-    met
+    offered
     (record p {
       scan = scans.Between;
       call = record p.call {
         going = false;
-        behind = behinds.Nothing;
-        taker = taken_behind p.call.taker;
+        following = followings.Nothing;
+        taker = taken_after p.call.taker;
       };
     })
-    (after_long p.call.behind)
+    (after_long p.call.following)
 
 -- the first word of a section's heading calls a macro
 abbrev pub heading_calls : Bool → Page → Bool
 heading_calls quoted p = is_heading p.call.taker && is_some (called_by quoted p.word)
 
-abbrev pub given : Bool → Page → Met
+abbrev pub given : Bool → Page → Offered
 given quoted p =
     if p.call.going then ends_long p else
     if reads_options p && not (heading_calls quoted p) then option p else parsed quoted p
 
 -- ---- words longer than what is kept of one
 
-abbrev pub fronted : Page → Page
-fronted p = record p { lay = record p.lay { front = true }; call = record p.call { going = true } }
+abbrev pub prefixed : Page → Page
+prefixed p = record p { lay = record p.lay { partial = true }; call = record p.call { going = true } }
 
-abbrev pub long_begins : Inside → Page → Met
+abbrev pub long_begins : Inside → Page → Offered
 long_begins inside p =
-    let m = argument true (fronted p) in seen_with (with_scan (scans.Goes inside) m.page) m
+    let m = argument true (prefixed p) in seen_with (with_scan (scans.Goes inside) m.page) m
 
-abbrev pub long : Inside → Page → Met
+abbrev pub long : Inside → Page → Offered
 long inside p =
-    if p.call.going then met (with_scan (scans.Goes inside) p) (left acts.More) else
-    if not (is_none p.marks) then met p (left acts.Marks) else
-    if is_enclosure_due p then leaves p else long_begins inside p
+    if p.call.going then offered (with_scan (scans.Goes inside) p) (left acts.More) else
+    if not (is_none p.marks) then offered p (left acts.Marks) else
+    if is_enclosure_pending p then leaves p else long_begins inside p
 
 abbrev pub goes_to : Inside → Scan
 goes_to insides.Word = scans.Word
@@ -166,5 +166,5 @@ goes_to insides.QuotedEscape = scans.QuotedEscape
 goes_to insides.Closing = scans.Closing
 goes_to (insides.Named escape quoted) = scans.Named escape quoted
 
-abbrev pub goes_on : Inside → Page → Met
-goes_on inside p = met (record p { scan = goes_to inside; word = [] }) (left acts.Nothing)
+abbrev pub goes_on : Inside → Page → Offered
+goes_on inside p = offered (record p { scan = goes_to inside; word = [] }) (left acts.Nothing)

@@ -78,9 +78,9 @@ said_of way word = word
 -- Whether a hyphen that is not the first letter of its word, after a hyphen or not, is kept as an escape, since no line is broken
 -- after it. In titles it is so for one after another.
 abbrev pub holds_hyphen : Way → Bool → Bool
-holds_hyphen Titled behind = behind
-holds_hyphen Headed behind = false
-holds_hyphen way behind = true
+holds_hyphen Titled following = following
+holds_hyphen Headed following = false
+holds_hyphen way following = true
 
 -- ---- words of a macro's line, between quotes or not
 
@@ -123,13 +123,13 @@ is_hyphen (Plain b) = b == code "-"
 is_hyphen (Escape b) = b == code "-"
 
 abbrev pub is_held : Way → Bool → ℕ → Bool
-is_held way behind b = (b == code "-") && holds_hyphen way behind
+is_held way following b = (b == code "-") && holds_hyphen way following
 
--- how far the escape behind which a letter stands has been read behind that too; none where it has ended
-abbrev pub reached_behind : Option Reached → Letter → Option Reached
-reached_behind reached (Escape b) = escape_then escapes.Begun b
-reached_behind None (Plain b) = None
-reached_behind (Some reached) (Plain b) = if ends_escape b then None else escape_then reached b
+-- how far the escape after which a letter stands has been read beyond it; none where it has ended
+abbrev pub reached_after : Option Reached → Letter → Option Reached
+reached_after reached (Escape b) = escape_then escapes.Begun b
+reached_after None (Plain b) = None
+reached_after (Some reached) (Plain b) = if ends_escape b then None else escape_then reached b
 
 -- whether a byte is of the name or the argument of that escape
 abbrev pub is_named : Option Reached → ℕ → Bool
@@ -138,10 +138,10 @@ is_named (Some reached) b = not (ends_escape b)
 
 -- a letter as it is kept, after a hyphen or not, where the blanks of its word stay together or not
 abbrev pub kept_letter : Way → Bool → Option Reached → Bool → Letter → List ℕ
-kept_letter way whole reached behind (Plain b) =
+kept_letter way whole reached following (Plain b) =
     if is_named reached b then b ∷ [] else
-    if (b == code " ") && whole then codes "\\~" else if is_held way behind b then codes "\\-" else b ∷ []
-kept_letter way whole reached behind (Escape b) = code "\\" ∷ b ∷ []
+    if (b == code " ") && whole then codes "\\~" else if is_held way following b then codes "\\-" else b ∷ []
+kept_letter way whole reached following (Escape b) = code "\\" ∷ b ∷ []
 
 -- the first letter of a word
 abbrev pub kept_first : Bool → Letter → List ℕ
@@ -149,14 +149,14 @@ kept_first whole (Plain b) = if (b == code " ") && whole then codes "\\~" else b
 kept_first whole (Escape b) = code "\\" ∷ b ∷ []
 
 abbrev pub kept_in : Way → Bool → Option Reached → Bool → List Letter → List ℕ
-kept_in way whole reached behind [] = []
-kept_in way whole reached behind (l ∷ ls) =
-    kept_letter way whole reached behind l ++ kept_in way whole (reached_behind reached l) (is_hyphen l) ls
+kept_in way whole reached following [] = []
+kept_in way whole reached following (l ∷ ls) =
+    kept_letter way whole reached following l ++ kept_in way whole (reached_after reached l) (is_hyphen l) ls
 
 -- a word as it is kept, of any length
 abbrev pub kept : Way → Bool → List Letter → List ℕ
 kept way whole [] = []
-kept way whole (l ∷ ls) = kept_first whole l ++ kept_in way whole (reached_behind None l) (is_hyphen l) ls
+kept way whole (l ∷ ls) = kept_first whole l ++ kept_in way whole (reached_after None l) (is_hyphen l) ls
 
 -- ---- macros whose words are printed as they stand
 

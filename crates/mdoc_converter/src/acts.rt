@@ -1,7 +1,7 @@
-//! What one meeting says: parts with fonts and joints, and requests.
+//! What one step says: parts with fonts and joints, and requests.
 
 use super::macros::{Font, Pair, System};
-use super::page::Front;
+use super::page::Prefix;
 
 /// A text that stands for a macro.
 #[derive(Clone, Copy)]
@@ -122,7 +122,7 @@ pub(crate) enum Act {
     /// A hyphen after which no line is broken.
     Hyphen,
     /// What was read of `.Dd`.
-    Front(Front),
+    Prefix(Prefix),
     /// The first byte of a text line.
     Begin(u8),
     /// The word, in a font.

@@ -2,7 +2,7 @@
 ghost use Rattle.std.specs.Prelude.{◌≡◌, ◌≤◌, length};
 ghost use Rattle.mdoc_converter.specs.AtHand as specs;
 
-use super::page::{Front, Scan};
+use super::page::{Prefix, Scan};
 use super::pending::Pending;
 use super::reader::Reader;
 
@@ -26,8 +26,8 @@ fn passing_in(scan: Scan, bytes: &[u8]) -> usize
 {
     match scan {
         Scan::Passes => bytes.len(),
-        Scan::Asleep(Front::Other, _) => before_newline(bytes),
-        Scan::Asleep(Front::Comment, _) => before_newline(bytes),
+        Scan::Asleep(Prefix::Other, _) => before_newline(bytes),
+        Scan::Asleep(Prefix::Comment, _) => before_newline(bytes),
         _ => 0,
     }
 }
@@ -40,7 +40,7 @@ impl Reader {
     {
         matches!(
             self.page.scan,
-            Scan::Passes | Scan::Asleep(Front::Other, _) | Scan::Asleep(Front::Comment, _)
+            Scan::Passes | Scan::Asleep(Prefix::Other, _) | Scan::Asleep(Prefix::Comment, _)
         )
     }
 

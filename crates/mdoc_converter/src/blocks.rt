@@ -1,6 +1,6 @@
 //! Lists, their items, and displays.
 ghost use Rattle.std.specs.Prelude.{◌≡◌, ◌≤◌};
-ghost use Rattle.mdoc_converter.specs.Seeing.{met};
+ghost use Rattle.mdoc_converter.specs.Seeing.{offered};
 ghost use Rattle.mdoc_converter.specs.Blocks as specs;
 
 use super::acts::{Act, Request, Sized, Stack};
@@ -111,7 +111,7 @@ fn space(compact: bool) -> Act
 impl Page {
     /// A list or a display comes, with its options.
     pub(crate) fn block_opens(&mut self, kind: Kind) -> Seen
-        ensures { met self.new result ≡ specs.block_opens kind self.old }
+        ensures { offered self.new result ≡ specs.block_opens kind self.old }
     {
         self.block = fresh_block(kind, inner(self.block));
         Seen::left(Act::Fresh).with(Stack::Opens)
@@ -136,7 +136,7 @@ impl Page {
 
     /// A list begins.
     pub(crate) fn list_begins(&mut self) -> Seen
-        ensures { met self.new result ≡ specs.list_begins self.old }
+        ensures { offered self.new result ≡ specs.list_begins self.old }
     {
         if matches!(self.block.kind, Kind::Column) {
             return Seen::three(space(self.block.compact), self.indent(), self.stops());
@@ -146,7 +146,7 @@ impl Page {
 
     /// A display begins.
     pub(crate) fn display_begins(&mut self) -> Seen
-        ensures { met self.new result ≡ specs.display_begins self.old }
+        ensures { offered self.new result ≡ specs.display_begins self.old }
     {
         let space = space(self.block.compact);
         let indent = self.indent();
@@ -160,7 +160,7 @@ impl Page {
 
     /// Its lines stay.
     fn literal(&mut self, space: Act, indent: Act, request: Request) -> Seen
-        ensures { met self.new result ≡ specs.literal space indent request self.old }
+        ensures { offered self.new result ≡ specs.literal space indent request self.old }
     {
         self.lay.literal = true;
         Seen::three(space, indent, Act::Request(request))
@@ -168,7 +168,7 @@ impl Page {
 
     /// A list ends.
     pub(crate) fn list_ends(&mut self) -> Seen
-        ensures { met self.new result ≡ specs.list_ends self.old }
+        ensures { offered self.new result ≡ specs.list_ends self.old }
     {
         if !is_list(self.block.kind) {
             return Seen::left(Act::Nothing);
@@ -182,7 +182,7 @@ impl Page {
 
     /// A display ends.
     pub(crate) fn display_ends(&mut self) -> Seen
-        ensures { met self.new result ≡ specs.display_ends self.old }
+        ensures { offered self.new result ≡ specs.display_ends self.old }
     {
         let end = Act::Request(Request::IndentEnds);
         match self.block.kind {
@@ -195,7 +195,7 @@ impl Page {
 
     /// Lines stay no more.
     fn literal_ends(&mut self, request: Request) -> Seen
-        ensures { met self.new result ≡ specs.literal_ends request self.old }
+        ensures { offered self.new result ≡ specs.literal_ends request self.old }
     {
         self.lay.literal = false;
         Seen::two(Act::Request(request), Act::Request(Request::IndentEnds)).with(Stack::Closes)
@@ -213,7 +213,7 @@ impl Page {
 
     /// A line that is indented comes.
     pub(crate) fn line_opens(&mut self) -> Seen
-        ensures { met self.new result ≡ specs.line_opens self.old }
+        ensures { offered self.new result ≡ specs.line_opens self.old }
     {
         self.call.taker = Macro::Words(Font::Roman);
         Seen::left(Act::Sized(Sized::Indent, inner(self.block) + 6))
@@ -231,7 +231,7 @@ impl Page {
 
     /// An item comes.
     pub(crate) fn item(&mut self) -> Seen
-        ensures { met self.new result ≡ specs.item self.old }
+        ensures { offered self.new result ≡ specs.item self.old }
     {
         self.place.depth = 0;
         self.call.taker = Macro::Words(Font::Roman);

@@ -1,6 +1,6 @@
-//! Macros are called: what is due from the one before, and what they say before their words.
+//! Macros are called: what is pending from the one before, and what they say before their words.
 ghost use Rattle.std.specs.Prelude.{◌≡◌, ◌≤◌};
-ghost use Rattle.mdoc_converter.specs.Seeing.{met};
+ghost use Rattle.mdoc_converter.specs.Seeing.{offered};
 ghost use Rattle.mdoc_converter.specs.Calls as specs;
 
 use super::acts::{Act, Request, Text};
@@ -48,8 +48,8 @@ impl Page {
     }
 
     /// What takes words stands for text where it took none, or has an end.
-    pub(crate) fn is_due(&self) -> bool
-        ensures { result ≡ specs.is_due self.now }
+    pub(crate) fn is_pending(&self) -> bool
+        ensures { result ≡ specs.is_pending self.now }
     {
         match self.call.taker {
             Macro::Flag
@@ -61,13 +61,13 @@ impl Page {
             | Macro::Stands(_) => !self.call.some,
             Macro::Name => !self.call.some && !self.name.is_empty(),
             Macro::Function | Macro::Link => self.call.some,
-            _ => self.is_enclosure_due(),
+            _ => self.is_enclosure_pending(),
         }
     }
 
     /// What opens an enclosure stands after the opening marks that come first in it.
-    pub(crate) fn is_enclosure_due(&self) -> bool
-        ensures { result ≡ specs.is_enclosure_due self.now }
+    pub(crate) fn is_enclosure_pending(&self) -> bool
+        ensures { result ≡ specs.is_enclosure_pending self.now }
     {
         match self.call.taker {
             Macro::Encloses(_) => !self.call.some,
@@ -94,7 +94,7 @@ impl Page {
 
     /// The page's name is printed, in a synopsis as the beginning of a line.
     fn own_name(&mut self) -> Seen
-        ensures { met self.new result ≡ specs.own_name self.old }
+        ensures { offered self.new result ≡ specs.own_name self.old }
     {
         if self.heads_line() {
             self.place.last = Last::Name;
@@ -104,9 +104,9 @@ impl Page {
         Seen::left(Act::Own)
     }
 
-    /// What is due from the macro that took words.
-    fn due(&mut self) -> Seen
-        ensures { met self.new result ≡ specs.due self.old }
+    /// What is pending from the macro that took words.
+    fn pending(&mut self) -> Seen
+        ensures { offered self.new result ≡ specs.pending self.old }
     {
         match self.call.taker {
             Macro::Flag => Seen::left(Act::Text(Text::Dash)),
@@ -126,19 +126,19 @@ impl Page {
         }
     }
 
-    /// What is due is said, and no macro takes words then.
+    /// What is pending is said, and no macro takes words then.
     #[tactic(auto, unfolding(crate::specs::Calls::leaves))]
     pub(crate) fn leaves(&mut self) -> Seen
-        ensures { met self.new result ≡ specs.leaves self.old }
+        ensures { offered self.new result ≡ specs.leaves self.old }
     {
-        let seen = self.due();
+        let seen = self.pending();
         self.takes_no_more();
         seen
     }
 
     /// A function's parameters end.
     fn function_closes(&mut self) -> Seen
-        ensures { met self.new result ≡ specs.function_closes self.old }
+        ensures { offered self.new result ≡ specs.function_closes self.old }
     {
         self.place.parameters = Parameters::Outside;
         if self.is_synopsis() {
@@ -160,12 +160,12 @@ impl Page {
         Seen::two(Act::Fresh, Act::Text(Text::Link))
     }
 
-    /// A macro is called: what is due from the one before comes first.
+    /// A macro is called: what is pending from the one before comes first.
     #[tactic(auto, unfolding(crate::specs::Calls::call))]
     pub(crate) fn call(&mut self, called: Macro) -> Seen
-        ensures { met self.new result ≡ specs.call called self.old }
+        ensures { offered self.new result ≡ specs.call called self.old }
     {
-        if !self.is_due() {
+        if !self.is_pending() {
             return self.calls(called);
         }
         if self.encloses_address(called) {
@@ -191,7 +191,7 @@ impl Page {
     /// Signs enclose it.
     fn opens_address(&mut self) -> Seen
         requires { specs.has_closer self.old }
-        ensures { met self.new result ≡ specs.opens_address self.old }
+        ensures { offered self.new result ≡ specs.opens_address self.old }
     {
         let closers = self.closers;
         let bytes = closers.as_bytes();
@@ -203,7 +203,7 @@ impl Page {
 
     /// A macro takes the words that follow, or stands for text.
     fn calls(&mut self, called: Macro) -> Seen
-        ensures { met self.new result ≡ specs.calls called self.old }
+        ensures { offered self.new result ≡ specs.calls called self.old }
     {
         self.scan = Scan::Between;
         self.call.taker = called;
@@ -215,7 +215,7 @@ impl Page {
 
     /// What a macro says before its words.
     pub(crate) fn called(&mut self, called: Macro) -> Seen
-        ensures { met self.new result ≡ specs.called called self.old }
+        ensures { offered self.new result ≡ specs.called called self.old }
     {
         match called {
             Macro::Encloses(pair) => self.encloses(pair),
@@ -241,7 +241,7 @@ impl Page {
 
     /// The rest of the line is enclosed.
     fn encloses(&mut self, pair: Pair) -> Seen
-        ensures { met self.new result ≡ specs.encloses pair self.old }
+        ensures { offered self.new result ≡ specs.encloses pair self.old }
     {
         if self.closers.len() < MOST_CLOSERS {
             self.closers.push(closer(pair));
@@ -251,7 +251,7 @@ impl Page {
 
     /// An enclosure begins that may end on another line.
     fn opens(&mut self) -> Seen
-        ensures { met self.new result ≡ specs.opens self.old }
+        ensures { offered self.new result ≡ specs.opens self.old }
     {
         if self.place.depth < 255 {
             self.place.depth += 1;
@@ -261,7 +261,7 @@ impl Page {
 
     /// It ends, and no sentence with it.
     fn closes(&mut self, pair: Pair) -> Seen
-        ensures { met self.new result ≡ specs.closes pair self.old }
+        ensures { offered self.new result ≡ specs.closes pair self.old }
     {
         if self.place.depth > 0 {
             self.place.depth -= 1;

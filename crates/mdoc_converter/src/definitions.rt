@@ -1,6 +1,6 @@
 //! Macros that a page defines: their names are kept, and their lines pass.
 ghost use Rattle.std.specs.Prelude.{◌≡◌, ◌≤◌};
-ghost use Rattle.mdoc_converter.specs.Seeing.{met};
+ghost use Rattle.mdoc_converter.specs.Seeing.{offered};
 ghost use Rattle.mdoc_converter.specs.Definitions as specs;
 
 use super::acts::Act;
@@ -63,7 +63,7 @@ impl Page {
 
     /// In the line that begins a definition.
     pub(crate) fn in_definition(&mut self, byte: u8) -> Seen
-        ensures { met self.new result ≡ specs.in_definition byte self.old }
+        ensures { offered self.new result ≡ specs.in_definition byte self.old }
     {
         match byte {
             b' ' | b'\t' => {

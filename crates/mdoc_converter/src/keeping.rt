@@ -1,6 +1,6 @@
 //! The bytes of a word are kept, between quotes or not.
 ghost use Rattle.std.specs.Prelude.{◌≡◌, ◌≤◌};
-ghost use Rattle.mdoc_converter.specs.Seeing.{met};
+ghost use Rattle.mdoc_converter.specs.Seeing.{offered};
 ghost use Rattle.mdoc_converter.specs.Keeping as specs;
 
 use super::acts::Act;
@@ -23,7 +23,7 @@ pub(crate) fn ends_word(byte: u8) -> bool
 impl Page {
     /// The line is read further so.
     pub(crate) fn turns(&mut self, scan: Scan, seen: Seen) -> Seen
-        ensures { met self.new result ≡ specs.turns scan seen self.old }
+        ensures { offered self.new result ≡ specs.turns scan seen self.old }
     {
         self.scan = scan;
         seen
@@ -31,7 +31,7 @@ impl Page {
 
     /// A word begins.
     pub(crate) fn word_begins(&mut self, scan: Scan, seen: Seen) -> Seen
-        ensures { met self.new result ≡ specs.word_begins scan seen self.old }
+        ensures { offered self.new result ≡ specs.word_begins scan seen self.old }
     {
         self.word = Name::new();
         self.call.width = 0;
@@ -57,7 +57,7 @@ impl Page {
     /// A byte that has no room in a word that isn't printed is counted; what was read of a title becomes a string.
     #[tactic(auto, unfolding(crate::specs::Keeping::keep_unshown))]
     fn keep_unshown(&mut self, byte: u8) -> Seen
-        ensures { met self.new result ≡ specs.keep_unshown byte self.old }
+        ensures { offered self.new result ≡ specs.keep_unshown byte self.old }
     {
         if self.is_titling() {
             self.title = self.word;
@@ -72,7 +72,7 @@ impl Page {
 
     /// A byte of a word is kept, or what was kept goes out first.
     fn keep(&mut self, byte: u8, quoted: bool) -> Seen
-        ensures { met self.new result ≡ specs.keep byte quoted self.old }
+        ensures { offered self.new result ≡ specs.keep byte quoted self.old }
     {
         if self.word.len() < MOST_KEPT {
             self.word.push(byte);
@@ -108,7 +108,7 @@ impl Page {
 
     /// A byte of a word is kept: a hyphen that doesn't begin it as an escape, since no line is broken after that.
     fn keep_byte(&mut self, byte: u8, quoted: bool) -> Seen
-        ensures { met self.new result ≡ specs.keep_byte byte quoted self.old }
+        ensures { offered self.new result ≡ specs.keep_byte byte quoted self.old }
     {
         if byte == b'-' && !self.word.is_empty() && (!self.is_looked_up() || self.is_dash()) {
             return self.keep_escape(byte, quoted);
@@ -129,7 +129,7 @@ impl Page {
 
     /// A blank is kept, which stays with what it stands between.
     fn keep_blank(&mut self) -> Seen
-        ensures { met self.new result ≡ specs.keep_blank self.old }
+        ensures { offered self.new result ≡ specs.keep_blank self.old }
     {
         if self.word.len() < MOST_KEPT {
             return self.keep_escape(b'~', true);
@@ -139,7 +139,7 @@ impl Page {
 
     /// In a word.
     pub(crate) fn in_word(&mut self, byte: u8) -> Seen
-        ensures { met self.new result ≡ specs.in_word byte self.old }
+        ensures { offered self.new result ≡ specs.in_word byte self.old }
     {
         if ends_word(byte) {
             return self.turns(Scan::Given(false), Seen::left(Act::Nothing));
@@ -152,7 +152,7 @@ impl Page {
 
     /// In a word between quotes.
     pub(crate) fn in_quotes(&mut self, byte: u8) -> Seen
-        ensures { met self.new result ≡ specs.in_quotes byte self.old }
+        ensures { offered self.new result ≡ specs.in_quotes byte self.old }
     {
         match byte {
             b'"' => self.turns(Scan::Closing, Seen::taken(Act::Nothing)),
@@ -165,7 +165,7 @@ impl Page {
 
     /// A quote between quotes is kept, or what was kept goes out first.
     fn keep_quote(&mut self) -> Seen
-        ensures { met self.new result ≡ specs.keep_quote self.old }
+        ensures { offered self.new result ≡ specs.keep_quote self.old }
     {
         if self.word.len() >= MOST_KEPT && self.is_shown() {
             return self.turns(Scan::Long(Inside::Closing), Seen::left(Act::Nothing));
@@ -176,7 +176,7 @@ impl Page {
 
     /// After a quote that may be the last of its word.
     pub(crate) fn closing(&mut self, byte: u8) -> Seen
-        ensures { met self.new result ≡ specs.closing byte self.old }
+        ensures { offered self.new result ≡ specs.closing byte self.old }
     {
         if byte == b'"' {
             return self.keep_quote();
@@ -186,7 +186,7 @@ impl Page {
 
     /// A comment begins: what was read of a word is whole.
     fn comment(&mut self, quoted: bool) -> Seen
-        ensures { met self.new result ≡ specs.comment quoted self.old }
+        ensures { offered self.new result ≡ specs.comment quoted self.old }
     {
         self.call.comment = true;
         let none = self.word.is_empty() && !self.call.going;
@@ -200,7 +200,7 @@ impl Page {
 
     /// An escape is kept, or what was kept goes out first.
     fn keep_escape(&mut self, byte: u8, quoted: bool) -> Seen
-        ensures { met self.new result ≡ specs.keep_escape byte quoted self.old }
+        ensures { offered self.new result ≡ specs.keep_escape byte quoted self.old }
     {
         if self.word.len() < MOST_KEPT {
             self.word.push(b'\\');
@@ -216,7 +216,7 @@ impl Page {
 
     /// A line goes on with the next: a word that was not begun may begin there.
     fn continued(&mut self, quoted: bool) -> Seen
-        ensures { met self.new result ≡ specs.continued quoted self.old }
+        ensures { offered self.new result ≡ specs.continued quoted self.old }
     {
         let none = !quoted && self.word.is_empty() && !self.call.going;
         let scan = if none {
@@ -229,7 +229,7 @@ impl Page {
 
     /// After a backslash in a word: a line that ends so goes on with the next.
     pub(crate) fn in_escape(&mut self, byte: u8, quoted: bool) -> Seen
-        ensures { met self.new result ≡ specs.in_escape byte quoted self.old }
+        ensures { offered self.new result ≡ specs.in_escape byte quoted self.old }
     {
         match byte {
             b'"' => self.comment(quoted),
@@ -240,7 +240,7 @@ impl Page {
 
     /// An escape is kept, and its name or its argument may come.
     fn keep_begun(&mut self, byte: u8, quoted: bool) -> Seen
-        ensures { met self.new result ≡ specs.keep_begun byte quoted self.old }
+        ensures { offered self.new result ≡ specs.keep_begun byte quoted self.old }
     {
         let seen = self.keep_escape(byte, quoted);
         if seen.takes {
@@ -249,9 +249,9 @@ impl Page {
         seen
     }
 
-    /// A byte that ends an escape is met as one of the word.
+    /// A byte that ends an escape is offered as one of the word.
     fn after_name(&mut self, quoted: bool, byte: u8) -> Seen
-        ensures { met self.new result ≡ specs.after_name quoted byte self.old }
+        ensures { offered self.new result ≡ specs.after_name quoted byte self.old }
     {
         self.scan = in_word_of(quoted);
         if quoted {
@@ -263,7 +263,7 @@ impl Page {
 
     /// In the name or the argument of an escape: its bytes stay as they are.
     pub(crate) fn in_name_of(&mut self, escape: Escape, quoted: bool, byte: u8) -> Seen
-        ensures { met self.new result ≡ specs.in_name_of escape quoted byte self.old }
+        ensures { offered self.new result ≡ specs.in_name_of escape quoted byte self.old }
     {
         if ends_escape(byte) {
             return self.after_name(quoted, byte);

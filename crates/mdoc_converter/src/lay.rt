@@ -208,8 +208,8 @@ impl Page {
         ensures few { length out.new.items ≤ length out.old.items + 5 }
         ensures room { out.new.capacity ≡ out.old.capacity }
     {
-        if self.lay.front {
-            self.lay.front = false;
+        if self.lay.partial {
+            self.lay.partial = false;
             self.lay.font = font;
             return;
         }
@@ -217,7 +217,7 @@ impl Page {
         out.extend(font_end(font));
     }
 
-    /// The word, or its front, in a font.
+    /// The word, or its prefix, in a font.
     fn put_word(&mut self, joined: bool, font: Font, out: &mut SliceVec<'_, u8>)
         requires { length out.old.items + 48 ≤ out.old.capacity }
         ensures page { self.new ≡ (specs.put_word joined font self.old).page }

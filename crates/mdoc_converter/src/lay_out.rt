@@ -4,7 +4,7 @@ ghost use Rattle.mdoc_converter.specs.LayingOut as specs;
 
 use super::acts::Act;
 use super::page::Page;
-use super::texts::{front_of, text_of};
+use super::texts::{prefix_of, text_of};
 use nr_vectors::slice_vec::SliceVec;
 
 impl Page {
@@ -88,7 +88,7 @@ impl Page {
             Act::Nothing => {}
             Act::Byte(byte) => out.push(byte),
             Act::Hyphen => out.extend(b"\\-"),
-            Act::Front(front) => out.extend(front_of(front)),
+            Act::Prefix(prefix) => out.extend(prefix_of(prefix)),
             Act::Begin(byte) => self.put(self.lay.joined, &[byte], out),
             Act::Text(text) => self.put(self.is_joined(), text_of(text), out),
             Act::Close(text) => self.put(true, text_of(text), out),

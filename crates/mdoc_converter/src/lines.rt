@@ -1,11 +1,11 @@
 //! Lines: what the macro that begins one says, and what its end says.
 ghost use Rattle.std.specs.Prelude.{◌≡◌};
-ghost use Rattle.mdoc_converter.specs.Seeing.{met};
+ghost use Rattle.mdoc_converter.specs.Seeing.{offered};
 ghost use Rattle.mdoc_converter.specs.Lines as specs;
 
 use super::acts::{Act, Request, Stack, Text};
 use super::macros::{Font, Macro, macro_of};
-use super::page::{Behind, Call, Kind, Last, Page, Row, Scan, Section, Split, Wanted};
+use super::page::{Call, Following, Kind, Last, Page, Row, Scan, Section, Split, Wanted};
 use super::seen::Seen;
 use nr_units::Name;
 
@@ -48,7 +48,7 @@ pub(crate) fn call_of(line: Macro) -> Call
         some: false,
         listed: false,
         many: false,
-        behind: Behind::Nothing,
+        following: Following::Nothing,
         going: false,
         comment: false,
         wanted: Wanted::Option,
@@ -73,7 +73,7 @@ fn stands_after(last: Last, kind: Last) -> bool
 impl Page {
     /// The name of a control line is whole.
     pub(crate) fn named_line(&mut self) -> Seen
-        ensures { met self.new result ≡ specs.named_line self.old }
+        ensures { offered self.new result ≡ specs.named_line self.old }
     {
         self.scan = Scan::Between;
         self.closers = Name::new();
@@ -88,7 +88,7 @@ impl Page {
 
     /// A request, a macro of the page's own, or a line whose macro is none.
     fn other_line(&mut self) -> Seen
-        ensures { met self.new result ≡ specs.other_line self.old }
+        ensures { offered self.new result ≡ specs.other_line self.old }
     {
         if is_request(self.word.as_bytes()) || self.is_own() {
             if matches!(self.place.section, Section::Name) && is_condition(self.word.as_bytes()) {
@@ -104,7 +104,7 @@ impl Page {
     /// A macro begins a line.
     #[tactic(auto, unfolding(crate::specs::Lines::begins))]
     fn begins(&mut self, line: Macro) -> Seen
-        ensures { met self.new result ≡ specs.begins line self.old }
+        ensures { offered self.new result ≡ specs.begins line self.old }
     {
         match line {
             Macro::Title => self.titles(),
@@ -132,7 +132,7 @@ impl Page {
 
     /// A macro begins a line that belongs to lists, displays or the synopsis.
     fn begins_block(&mut self, line: Macro) -> Seen
-        ensures { met self.new result ≡ specs.begins_block line self.old }
+        ensures { offered self.new result ≡ specs.begins_block line self.old }
     {
         match line {
             Macro::List => self.block_opens(Kind::Item),
@@ -153,7 +153,7 @@ impl Page {
 
     /// A title comes.
     fn titles(&mut self) -> Seen
-        ensures { met self.new result ≡ specs.titles self.old }
+        ensures { offered self.new result ≡ specs.titles self.old }
     {
         self.title = Name::new();
         self.chapter = Name::new();
@@ -162,7 +162,7 @@ impl Page {
 
     /// The system comes: the title's line goes out; where no title came yet, it goes out with the first section.
     fn system(&mut self) -> Seen
-        ensures { met self.new result ≡ specs.system self.old }
+        ensures { offered self.new result ≡ specs.system self.old }
     {
         if self.place.titled || self.title.is_empty() {
             self.call.line = Macro::Silent;
@@ -193,7 +193,7 @@ impl Page {
 
     /// A section begins.
     fn section(&mut self) -> Seen
-        ensures { met self.new result ≡ specs.section self.old }
+        ensures { offered self.new result ≡ specs.section self.old }
     {
         self.heads();
         self.place.section = Section::Other;
@@ -206,7 +206,7 @@ impl Page {
 
     /// A subsection begins.
     fn subsection(&mut self) -> Seen
-        ensures { met self.new result ≡ specs.subsection self.old }
+        ensures { offered self.new result ≡ specs.subsection self.old }
     {
         self.heads();
         self.heading(Act::Subsection)
@@ -214,7 +214,7 @@ impl Page {
 
     /// A paragraph begins.
     fn paragraph(&mut self) -> Seen
-        ensures { met self.new result ≡ specs.paragraph self.old }
+        ensures { offered self.new result ≡ specs.paragraph self.old }
     {
         self.place.last = Last::Heading;
         Seen::left(Act::Space)
@@ -222,7 +222,7 @@ impl Page {
 
     /// A line that prints nothing.
     fn silent(&mut self) -> Seen
-        ensures { met self.new result ≡ specs.silent self.old }
+        ensures { offered self.new result ≡ specs.silent self.old }
     {
         self.scan = Scan::Dropped;
         Seen::left(Act::Nothing)
@@ -230,7 +230,7 @@ impl Page {
 
     /// Space that the page itself asks for passes, but after space that was made.
     fn asks_space(&mut self) -> Seen
-        ensures { met self.new result ≡ specs.asks_space self.old }
+        ensures { offered self.new result ≡ specs.asks_space self.old }
     {
         if self.lay.quiet {
             return self.silent();
@@ -241,7 +241,7 @@ impl Page {
 
     /// Lines that pass come.
     fn defines(&mut self) -> Seen
-        ensures { met self.new result ≡ specs.defines self.old }
+        ensures { offered self.new result ≡ specs.defines self.old }
     {
         self.scan = Scan::Defines;
         Seen::left(Act::Control)
@@ -249,7 +249,7 @@ impl Page {
 
     /// The words of a line stay together, or no more.
     fn keeps(&mut self, kept: bool) -> Seen
-        ensures { met self.new result ≡ specs.keeps kept self.old }
+        ensures { offered self.new result ≡ specs.keeps kept self.old }
     {
         self.lay.kept = kept;
         self.silent()
@@ -257,7 +257,7 @@ impl Page {
 
     /// Lines for tbl come. What divides a table stands outside of one for nothing.
     fn table(&mut self) -> Seen
-        ensures { met self.new result ≡ specs.table self.old }
+        ensures { offered self.new result ≡ specs.table self.old }
     {
         if self.word.as_bytes() != b"TS".as_slice() {
             return self.silent();
@@ -268,7 +268,7 @@ impl Page {
 
     /// What ends a table passes.
     fn table_ends(&mut self) -> Seen
-        ensures { met self.new result ≡ specs.table_ends self.old }
+        ensures { offered self.new result ≡ specs.table_ends self.old }
     {
         self.scan = Scan::Rest;
         Seen::left(Act::Control)
@@ -276,7 +276,7 @@ impl Page {
 
     /// A reference begins.
     fn book(&mut self) -> Seen
-        ensures { met self.new result ≡ specs.book self.old }
+        ensures { offered self.new result ≡ specs.book self.old }
     {
         self.place.reference = true;
         self.place.authors = 0;
@@ -289,7 +289,7 @@ impl Page {
 
     /// It ends.
     fn book_ends(&mut self) -> Seen
-        ensures { met self.new result ≡ specs.book_ends self.old }
+        ensures { offered self.new result ≡ specs.book_ends self.old }
     {
         if !self.place.reference {
             return Seen::left(Act::Nothing);
@@ -300,7 +300,7 @@ impl Page {
 
     /// A part of it comes.
     fn part_begins(&mut self, letter: u8) -> Seen
-        ensures { met self.new result ≡ specs.part_begins letter self.old }
+        ensures { offered self.new result ≡ specs.part_begins letter self.old }
     {
         if !self.place.reference {
             return Seen::left(Act::Nothing);
@@ -331,7 +331,7 @@ impl Page {
 
     /// In a synopsis some macros begin a line.
     fn synopsis_line(&mut self, kind: Last) -> Seen
-        ensures { met self.new result ≡ specs.synopsis_line kind self.old }
+        ensures { offered self.new result ≡ specs.synopsis_line kind self.old }
     {
         if !self.is_synopsis() {
             return Seen::left(Act::Nothing);
@@ -343,7 +343,7 @@ impl Page {
 
     /// A function hangs in the synopsis.
     fn function_line(&mut self) -> Seen
-        ensures { met self.new result ≡ specs.function_line self.old }
+        ensures { offered self.new result ≡ specs.function_line self.old }
     {
         if !self.is_synopsis() {
             return Seen::left(Act::Nothing);
@@ -355,7 +355,7 @@ impl Page {
 
     /// A file that a line includes.
     fn include_line(&mut self) -> Seen
-        ensures { met self.new result ≡ specs.include_line self.old }
+        ensures { offered self.new result ≡ specs.include_line self.old }
     {
         if !self.is_synopsis() {
             return Seen::left(Act::Nothing);
@@ -365,14 +365,14 @@ impl Page {
         Seen::two(act, Act::Text(Text::Include))
     }
 
-    /// The line ends: what is due comes first, then what closes enclosures, the last first, then marks.
+    /// The line ends: what is pending comes first, then what closes enclosures, the last first, then marks.
     ///
     /// Proved: What a line opened for its own words is closed where it ends, the last first, before the closing marks
     /// that end it. (`ends`, `closes_last`)
     pub(crate) fn ends(&mut self) -> Seen
-        ensures { met self.new result ≡ specs.ends self.old }
+        ensures { offered self.new result ≡ specs.ends self.old }
     {
-        if self.is_due() {
+        if self.is_pending() {
             return self.leaves();
         }
         if !self.closers.is_empty() {
@@ -388,7 +388,7 @@ impl Page {
     #[tactic(auto, unfolding(crate::specs::Lines::closes_last))]
     fn closes_last(&mut self) -> Seen
         requires { specs.is_some_closer self.old }
-        ensures { met self.new result ≡ specs.closes_last self.old }
+        ensures { offered self.new result ≡ specs.closes_last self.old }
     {
         let closers = self.closers;
         let bytes = closers.as_bytes();
@@ -410,7 +410,7 @@ impl Page {
     /// All of the line was said.
     #[tactic(auto, unfolding(crate::specs::Lines::line_ends))]
     fn line_ends(&mut self) -> Seen
-        ensures { met self.new result ≡ specs.line_ends self.old }
+        ensures { offered self.new result ≡ specs.line_ends self.old }
     {
         let mut seen = self.end_of(self.call.line).and_taken();
         self.scan = Scan::Start;
@@ -424,7 +424,7 @@ impl Page {
     /// What the macro that began a line says at its end.
     #[tactic(auto, unfolding(crate::specs::Lines::end_of))]
     fn end_of(&mut self, line: Macro) -> Seen
-        ensures { met self.new result ≡ specs.end_of line self.old }
+        ensures { offered self.new result ≡ specs.end_of line self.old }
     {
         match line {
             Macro::Section | Macro::Subsection => Seen::left(Act::Quiet),
@@ -478,7 +478,7 @@ impl Page {
 
     /// Without a word the spacing turns. What stands open at the end of the line before goes on where words join.
     fn spacing(&mut self) -> Seen
-        ensures { met self.new result ≡ specs.spacing self.old }
+        ensures { offered self.new result ≡ specs.spacing self.old }
     {
         if !self.call.some {
             self.lay.spaced = !self.lay.spaced;

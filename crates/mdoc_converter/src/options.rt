@@ -1,6 +1,6 @@
 //! Words that are read for what they ask, and not printed.
 ghost use Rattle.std.specs.Prelude.{◌≡◌, ◌≤◌, OnSome};
-ghost use Rattle.mdoc_converter.specs.Seeing.{met};
+ghost use Rattle.mdoc_converter.specs.Seeing.{offered};
 ghost use Rattle.mdoc_converter.specs.Options as specs;
 
 use super::acts::{Act, Request, Text};
@@ -197,7 +197,7 @@ impl Page {
 
     /// A word comes for what it asks.
     pub(crate) fn option(&mut self) -> Seen
-        ensures { met self.new result ≡ specs.option self.old }
+        ensures { offered self.new result ≡ specs.option self.old }
     {
         self.scan = Scan::Between;
         let seen = self.option_word();
@@ -208,7 +208,7 @@ impl Page {
     /// By the macro that takes it.
     #[tactic(auto, unfolding(crate::specs::Options::option_word))]
     fn option_word(&mut self) -> Seen
-        ensures { met self.new result ≡ specs.option_word self.old }
+        ensures { offered self.new result ≡ specs.option_word self.old }
     {
         match self.call.taker {
             Macro::Date => self.date_word(),
@@ -224,7 +224,7 @@ impl Page {
 
     /// A word of the date: a month, a day and a year. What stands for the version's own is dropped.
     fn date_word(&mut self) -> Seen
-        ensures { met self.new result ≡ specs.date_word self.old }
+        ensures { offered self.new result ≡ specs.date_word self.old }
     {
         if is_version(self.word.as_bytes()) {
             return Seen::left(Act::Nothing);
@@ -241,7 +241,7 @@ impl Page {
 
     /// A word of the title.
     fn title_word(&mut self) -> Seen
-        ensures { met self.new result ≡ specs.title_word self.old }
+        ensures { offered self.new result ≡ specs.title_word self.old }
     {
         if !self.call.some {
             self.title = self.word;
@@ -267,7 +267,7 @@ impl Page {
 
     /// The first word of a section's heading.
     fn heading_word(&mut self) -> Seen
-        ensures { met self.new result ≡ specs.heading_word self.old }
+        ensures { offered self.new result ≡ specs.heading_word self.old }
     {
         self.enters();
         self.call.taker = Macro::Words(Font::Roman);
@@ -276,7 +276,7 @@ impl Page {
 
     /// The font of `.Bf`.
     fn font_word(&mut self) -> Seen
-        ensures { met self.new result ≡ specs.font_word self.old }
+        ensures { offered self.new result ≡ specs.font_word self.old }
     {
         match font_named(self.word.as_bytes()) {
             Some(font) => Seen::left(Act::Request(Request::Font(font))),
@@ -286,7 +286,7 @@ impl Page {
 
     /// Words are set apart, or not.
     fn spacing_word(&mut self) -> Seen
-        ensures { met self.new result ≡ specs.spacing_word self.old }
+        ensures { offered self.new result ≡ specs.spacing_word self.old }
     {
         self.lay.spaced = self.word.as_bytes() != b"off".as_slice();
         Seen::left(Act::Nothing)
@@ -301,7 +301,7 @@ impl Page {
 
     /// The name of a utility.
     fn utility(&mut self) -> Seen
-        ensures { met self.new result ≡ specs.utility self.old }
+        ensures { offered self.new result ≡ specs.utility self.old }
     {
         if self.is_usual() {
             return Seen::left(Act::Nothing);
@@ -315,7 +315,7 @@ impl Page {
 
     /// A name is held back, as it may be the last: the one that was held back before it is not.
     fn holds(&mut self) -> Seen
-        ensures { met self.new result ≡ specs.holds self.old }
+        ensures { offered self.new result ≡ specs.holds self.old }
     {
         if self.held.is_empty() {
             self.held = self.word;
@@ -327,7 +327,7 @@ impl Page {
 
     /// The name of a function.
     fn returning(&mut self) -> Seen
-        ensures { met self.new result ≡ specs.returning self.old }
+        ensures { offered self.new result ≡ specs.returning self.old }
     {
         if self.is_usual() {
             return Seen::left(Act::Nothing);
@@ -345,7 +345,7 @@ impl Page {
 
     /// The same of a function.
     fn holds_function(&mut self) -> Seen
-        ensures { met self.new result ≡ specs.holds_function self.old }
+        ensures { offered self.new result ≡ specs.holds_function self.old }
     {
         let mut seen = self.holds();
         if self.call.many {
@@ -382,7 +382,7 @@ impl Page {
 
     /// A word of `.Bl` or `.Bd`.
     fn block_word(&mut self) -> Seen
-        ensures { met self.new result ≡ specs.block_word self.old }
+        ensures { offered self.new result ≡ specs.block_word self.old }
     {
         match self.call.wanted {
             Wanted::Width => self.wide(),
@@ -393,7 +393,7 @@ impl Page {
 
     /// The width of tags.
     fn wide(&mut self) -> Seen
-        ensures { met self.new result ≡ specs.wide self.old }
+        ensures { offered self.new result ≡ specs.wide self.old }
     {
         self.block.width = Some(at_most(900, self.width_said()));
         self.call.wanted = Wanted::Option;
@@ -402,7 +402,7 @@ impl Page {
 
     /// The indent.
     fn indented(&mut self) -> Seen
-        ensures { met self.new result ≡ specs.indented self.old }
+        ensures { offered self.new result ≡ specs.indented self.old }
     {
         self.block.offset = at_most(900, self.block.offset) + at_most(90, self.offset_said());
         self.call.wanted = Wanted::Option;
@@ -411,7 +411,7 @@ impl Page {
 
     /// The width comes next, or the indent.
     fn wants(&mut self, wanted: Wanted) -> Seen
-        ensures { met self.new result ≡ specs.wants wanted self.old }
+        ensures { offered self.new result ≡ specs.wants wanted self.old }
     {
         self.call.wanted = wanted;
         Seen::left(Act::Nothing)
@@ -419,7 +419,7 @@ impl Page {
 
     /// An option of `.Bl` or `.Bd`.
     fn block_option(&mut self) -> Seen
-        ensures { met self.new result ≡ specs.block_option self.old }
+        ensures { offered self.new result ≡ specs.block_option self.old }
     {
         match asked(self.word.as_bytes()) {
             Some(Asks::Width) => self.wants(Wanted::Width),
@@ -446,7 +446,7 @@ impl Page {
 
     /// The width of a column.
     fn column(&mut self) -> Seen
-        ensures { met self.new result ≡ specs.column self.old }
+        ensures { offered self.new result ≡ specs.column self.old }
     {
         if !matches!(self.block.kind, Kind::Column) {
             return Seen::left(Act::Nothing);

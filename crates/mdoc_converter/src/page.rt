@@ -38,7 +38,7 @@ pub(crate) enum Row {
 
 /// What was read of `.Dd` at the beginning of a line, before a page is known to be one of mdoc.
 #[derive(Clone, Copy)]
-pub(crate) enum Front {
+pub(crate) enum Prefix {
     /// Nothing.
     Nothing,
     /// `.`.
@@ -89,7 +89,7 @@ pub(crate) enum Inside {
 #[derive(Clone, Copy)]
 pub(crate) enum Scan {
     /// In so many lines no `.Dd` came: all passes.
-    Asleep(Front, u8),
+    Asleep(Prefix, u8),
     /// All passes.
     Passes,
     /// At its beginning.
@@ -126,7 +126,7 @@ pub(crate) enum Scan {
     Given(bool),
     /// A word is longer than what is kept of one.
     Long(Inside),
-    /// Its front went out.
+    /// Its prefix went out.
     Goes(Inside),
     /// The rest of the line passes.
     Rest,
@@ -316,15 +316,15 @@ pub(crate) struct Lay {
     pub quiet: bool,
     /// The font of a word that goes on.
     pub font: Font,
-    /// The next word is only the front of a longer one.
-    pub front: bool,
-    /// The head of an item of `-diag` was put, and nothing behind it.
+    /// The next word is only the prefix of a longer one.
+    pub partial: bool,
+    /// The head of an item of `-diag` was put, and nothing after it.
     pub bare: bool,
 }
 
 /// What stands after a long word, all of it.
 #[derive(Clone, Copy)]
-pub(crate) enum Behind {
+pub(crate) enum Following {
     /// Nothing.
     Nothing,
     /// A parenthesis, which the next word joins.
@@ -353,8 +353,8 @@ pub(crate) struct Call {
     /// More than two names came.
     pub many: bool,
     /// What stands after the long word.
-    pub behind: Behind,
-    /// The front of the word went out.
+    pub following: Following,
+    /// The prefix of the word went out.
     pub going: bool,
     /// A comment ends the line.
     pub comment: bool,

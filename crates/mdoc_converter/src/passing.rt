@@ -4,16 +4,16 @@ ghost use Rattle.mdoc_converter.specs.Passing as specs;
 ghost use Rattle.mdoc_converter.specs.Reading.{converted};
 
 use super::keeping::ends_word;
-use super::page::{Front, Scan};
-use super::scan::{front_grows, given_up, passes_to};
+use super::page::{Prefix, Scan};
+use super::scan::{given_up, passes_to, prefix_grows};
 
 /// Where a byte leads that goes on no `.Dd`: nowhere, if it ends one.
-fn leads_after(front: Front, lines: u8, byte: u8) -> Option<Scan>
-    ensures { result ≡ specs.leads_after front lines byte }
+fn leads_after(prefix: Prefix, lines: u8, byte: u8) -> Option<Scan>
+    ensures { result ≡ specs.leads_after prefix lines byte }
 {
-    match front {
-        Front::Whole if ends_word(byte) => None,
-        _ => Some(passes_to(given_up(front), lines, byte)),
+    match prefix {
+        Prefix::Whole if ends_word(byte) => None,
+        _ => Some(passes_to(given_up(prefix), lines, byte)),
     }
 }
 
@@ -22,9 +22,9 @@ fn leads_from(scan: Scan, byte: u8) -> Option<Scan>
     ensures { result ≡ specs.leads_from scan byte }
 {
     match scan {
-        Scan::Asleep(front, lines) => match front_grows(front, byte) {
+        Scan::Asleep(prefix, lines) => match prefix_grows(prefix, byte) {
             Some(more) => Some(Scan::Asleep(more, lines)),
-            None => leads_after(front, lines, byte),
+            None => leads_after(prefix, lines, byte),
         },
         _ => Some(scan),
     }
@@ -48,7 +48,7 @@ pub fn passes_unchanged(text: &[u8]) -> bool
     ensures value { result ≡ specs.is_other text.now }
     ensures law { IsTrue result → converted text.now ≡ text.now }
 {
-    let mut scan = Some(Scan::Asleep(Front::Nothing, 0));
+    let mut scan = Some(Scan::Asleep(Prefix::Nothing, 0));
     for byte in text {
         scan = leads(scan, *byte);
     }

@@ -1,4 +1,4 @@
-//! Bytes are read: each is met until it is taken.
+//! Bytes are read: each is offered until it is taken.
 ghost use Rattle.std.specs.Prelude.{◌≡◌, ◌+◌, ◌*◌, ◌<◌, ◌≤◌, ◌++◌, length};
 ghost use Rattle.mdoc_converter.specs.Reading as specs;
 ghost use Rattle.mdoc_converter.specs.Reading.{state};
@@ -6,14 +6,14 @@ ghost use Rattle.mdoc_converter.specs.Reading.{state};
 use super::acts::Stack;
 use super::lines::call_of;
 use super::macros::{Font, Macro};
-use super::page::{At, Block, Front, Last, Lay, Page, Parameters, Place, Scan, Section, Split};
+use super::page::{At, Block, Last, Lay, Page, Parameters, Place, Prefix, Scan, Section, Split};
 use super::pending::Pending;
 use super::scan::before_next;
 use super::seen::Seen;
 use nr_units::Name;
 use nr_vectors::slice_vec::SliceVec;
 
-/// How often a byte is met at most.
+/// How often a byte is offered at most.
 const MEETINGS: u8 = 16;
 
 /// How many blocks may be open around the innermost.
@@ -33,7 +33,7 @@ fn first_lay() -> Lay
         quiet: true,
         font: Font::Roman,
         cell: 0,
-        front: false,
+        partial: false,
         bare: false,
     }
 }
@@ -76,8 +76,8 @@ impl Reader {
         }
     }
 
-    /// A byte is met once. Tells whether it was taken. Most bytes only go on a text line.
-    #[tactic(auto, unfolding(crate::specs::Reading::once, crate::specs::Reading::said, crate::specs::LayingOut::lay_out, crate::specs::Scanning::meet))]
+    /// A byte is offered once. Tells whether it was taken. Most bytes only go on a text line.
+    #[tactic(auto, unfolding(crate::specs::Reading::once, crate::specs::Reading::said, crate::specs::LayingOut::lay_out, crate::specs::Scanning::offer))]
     fn hear_once(
         &mut self,
         byte: u8,
@@ -103,7 +103,7 @@ impl Reader {
             }
         }
         let outer = self.page.block;
-        let seen = self.page.meet(byte);
+        let seen = self.page.offer(byte);
         self.page.say(seen, out);
         self.stack(seen.stack, outer, blocks);
         seen.takes
@@ -138,7 +138,7 @@ impl Reader {
         }
     }
 
-    /// A byte is met so often at most. Tells how many steps that took.
+    /// A byte is offered so often at most. Tells how many steps that took.
     fn hear_in(
         &mut self,
         byte: u8,
@@ -219,7 +219,7 @@ impl Page {
         ensures { result ≡ specs.first_page }
     {
         Page {
-            scan: Scan::Asleep(Front::Nothing, 0),
+            scan: Scan::Asleep(Prefix::Nothing, 0),
             word: Name::new(),
             marks: Name::new(),
             held: Name::new(),
@@ -239,7 +239,7 @@ impl Page {
         }
     }
 
-    /// What a meeting says is laid out.
+    /// What a step says is laid out.
     #[tactic(auto, unfolding(crate::specs::Reading::said))]
     fn say(&mut self, seen: Seen, out: &mut SliceVec<'_, u8>)
         requires { length out.old.items + 768 ≤ out.old.capacity }

@@ -99,9 +99,9 @@ impl Page {
     /// What stands before the title, and after it.
     fn title_marks(&self) -> (&'static [u8], &'static [u8])
         ensures before { result.0.now ≡ (specs.title_marks self.now).0 }
-        ensures behind { result.1.now ≡ (specs.title_marks self.now).1 }
+        ensures following { result.1.now ≡ (specs.title_marks self.now).1 }
         ensures few { length result.0.now ≤ 4 }
-        ensures few_behind { length result.1.now ≤ 4 }
+        ensures few_after { length result.1.now ≤ 4 }
     {
         if self.is_quoted() {
             (b"\\(lq", b"\\(rq")
@@ -137,11 +137,11 @@ impl Page {
             return;
         }
         self.put_comma(out);
-        let (before, behind) = self.title_marks();
+        let (before, following) = self.title_marks();
         out.extend(self.gap(self.is_joined(), b'\\'));
         out.extend(before);
         out.extend(b"\\*(%T");
-        out.extend(behind);
+        out.extend(following);
         self.was_put();
     }
 

@@ -1,6 +1,6 @@
 //! Lines of a table, which are for tbl: they pass, but for the names of macros.
 ghost use Rattle.std.specs.Prelude.{◌≡◌};
-ghost use Rattle.mdoc_converter.specs.Seeing.{met};
+ghost use Rattle.mdoc_converter.specs.Seeing.{offered};
 ghost use Rattle.mdoc_converter.specs.Rows as specs;
 
 use super::acts::{Act, Request};
@@ -40,7 +40,7 @@ fn after_byte(rest: Row, byte: u8) -> Scan
 impl Page {
     /// A byte of a line of a table.
     pub(crate) fn in_table(&mut self, row: Row, byte: u8) -> Seen
-        ensures { met self.new result ≡ specs.in_table row byte self.old }
+        ensures { offered self.new result ≡ specs.in_table row byte self.old }
     {
         match row {
             Row::Start => self.row_begins(byte),
@@ -55,14 +55,14 @@ impl Page {
 
     /// A byte passes.
     fn row_passes(&mut self, byte: u8) -> Seen
-        ensures { met self.new result ≡ specs.row_passes byte self.old }
+        ensures { offered self.new result ≡ specs.row_passes byte self.old }
     {
         self.turns(after_byte(Row::Rest, byte), Seen::taken(Act::Byte(byte)))
     }
 
     /// At the beginning of a line.
     fn row_begins(&mut self, byte: u8) -> Seen
-        ensures { met self.new result ≡ specs.row_begins byte self.old }
+        ensures { offered self.new result ≡ specs.row_begins byte self.old }
     {
         if is_control(byte) {
             return self.turns(Scan::Table(Row::Control), Seen::taken(Act::Nothing));
@@ -72,7 +72,7 @@ impl Page {
 
     /// After the control character.
     fn after_row_control(&mut self, byte: u8) -> Seen
-        ensures { met self.new result ≡ specs.after_row_control byte self.old }
+        ensures { offered self.new result ≡ specs.after_row_control byte self.old }
     {
         match byte {
             b' ' | b'\t' => Seen::taken(Act::Nothing),
@@ -87,7 +87,7 @@ impl Page {
 
     /// After the control character and a backslash: a comment, or a line that passes.
     fn after_row_escape(&mut self, byte: u8) -> Seen
-        ensures { met self.new result ≡ specs.after_row_escape byte self.old }
+        ensures { offered self.new result ≡ specs.after_row_escape byte self.old }
     {
         if byte == b'"' || byte == b'#' {
             return self.turns(Scan::Table(Row::Comment), Seen::taken(Act::Nothing));
@@ -98,7 +98,7 @@ impl Page {
 
     /// In the name of a control line.
     fn in_row_name(&mut self, byte: u8) -> Seen
-        ensures { met self.new result ≡ specs.in_row_name byte self.old }
+        ensures { offered self.new result ≡ specs.in_row_name byte self.old }
     {
         if ends_word(byte) || byte == b'\\' || self.word.is_full() {
             return self.named_row();
@@ -109,7 +109,7 @@ impl Page {
 
     /// The name of a control line is whole.
     fn named_row(&mut self) -> Seen
-        ensures { met self.new result ≡ specs.named_row self.old }
+        ensures { offered self.new result ≡ specs.named_row self.old }
     {
         if ends_table(self.word.as_bytes()) {
             return self.turns(
@@ -125,7 +125,7 @@ impl Page {
 
     /// The words of a macro are text of the table.
     fn row_words(&mut self, byte: u8) -> Seen
-        ensures { met self.new result ≡ specs.row_words byte self.old }
+        ensures { offered self.new result ≡ specs.row_words byte self.old }
     {
         if byte == b' ' {
             return Seen::taken(Act::Nothing);

@@ -19,7 +19,7 @@ use nr_units::source::Source;
 /// What goes out is one function of the bytes that came, however they came. At a read fault, and where the input is
 /// too long, it is that of the bytes before, but for a line that is half read; at a write fault a prefix of it.
 ///
-/// `steps` is set to the number of steps that this took: in each a byte meets what is half read. There are at most
+/// `steps` is set to the number of steps that this took: in each a byte is offered to what is half read. There are at most
 /// ninety-six for each byte that came, and as many more.
 ///
 /// Proved: What goes out of a page is one function of the bytes that came, however they came: `converted`, whose
@@ -44,7 +44,7 @@ pub fn convert<R: Source, W: Sink>(
     // What goes out of a whole page is `converted`, and the steps are at most ninety-six for each byte, and as many more.
     ensures whole { (bytes : List ℕ) → said first_state true bytes ≡ converted bytes }
     ensures quick { (ends : Bool) → (bytes : List ℕ) → steps_said first_state ends bytes ≤ 96 * (length bytes + 1) }
-    // A read fault is told only where the source failed once, and then always, but where the output fails too.
+    // A read fault is reported only where the source failed once, and then always, but where the output fails too.
     ensures read_faults { TellsReads result (R.failures input.old) (R.failures input.new) }
     ensures write_faults { W.failures output.new ≡ put_counted_if (is_write_fault result) (W.failures output.old) }
 {

@@ -1,6 +1,6 @@
-//! A byte meets what is half read.
+//! A byte is offered to what is half read.
 ghost use Rattle.std.specs.Prelude.{◌≡◌};
-ghost use Rattle.mdoc_converter.specs.Seeing.{met};
+ghost use Rattle.mdoc_converter.specs.Seeing.{offered};
 ghost use Rattle.mdoc_converter.specs.Scanning as specs;
 
 use super::acts::{Act, Text};
@@ -8,7 +8,7 @@ use super::escaping::{Escape, escape_then};
 use super::keeping::ends_word;
 use super::lines::call_of;
 use super::macros::Macro;
-use super::page::{Before, Dots, Front, Last, Page, Parameters, Scan};
+use super::page::{Before, Dots, Last, Page, Parameters, Prefix, Scan};
 use super::seen::Seen;
 use nr_units::Name;
 
@@ -49,46 +49,46 @@ pub(crate) fn before_next(before: Before, byte: u8) -> Before
 }
 
 /// One more byte of `.Dd`.
-pub(crate) fn front_grows(front: Front, byte: u8) -> Option<Front>
-    ensures { result ≡ specs.front_grows front byte }
+pub(crate) fn prefix_grows(prefix: Prefix, byte: u8) -> Option<Prefix>
+    ensures { result ≡ specs.prefix_grows prefix byte }
 {
-    match front {
-        Front::Nothing if byte == b'.' => Some(Front::Dot),
-        Front::Dot if byte == b'D' => Some(Front::Half),
-        Front::Half if byte == b'd' => Some(Front::Whole),
+    match prefix {
+        Prefix::Nothing if byte == b'.' => Some(Prefix::Dot),
+        Prefix::Dot if byte == b'D' => Some(Prefix::Half),
+        Prefix::Half if byte == b'd' => Some(Prefix::Whole),
         _ => None,
     }
 }
 
 /// What a line begins with, after one more byte that passes.
-fn front_then(front: Front, byte: u8) -> Front
-    ensures { result ≡ specs.front_then front byte }
+fn prefix_then(prefix: Prefix, byte: u8) -> Prefix
+    ensures { result ≡ specs.prefix_then prefix byte }
 {
-    match front {
-        Front::Nothing if byte == b'\'' => Front::Control,
-        Front::Control if byte == b'\\' => Front::Escape,
-        Front::Escape if byte == b'"' || byte == b'#' => Front::Comment,
-        Front::Comment => Front::Comment,
-        _ => Front::Other,
+    match prefix {
+        Prefix::Nothing if byte == b'\'' => Prefix::Control,
+        Prefix::Control if byte == b'\\' => Prefix::Escape,
+        Prefix::Escape if byte == b'"' || byte == b'#' => Prefix::Comment,
+        Prefix::Comment => Prefix::Comment,
+        _ => Prefix::Other,
     }
 }
 
 /// What a line begins with, where it goes on no `.Dd`.
-pub(crate) fn given_up(front: Front) -> Front
-    ensures { result ≡ specs.given_up front }
+pub(crate) fn given_up(prefix: Prefix) -> Prefix
+    ensures { result ≡ specs.given_up prefix }
 {
-    match front {
-        Front::Dot => Front::Control,
-        Front::Half | Front::Whole => Front::Other,
-        _ => front,
+    match prefix {
+        Prefix::Dot => Prefix::Control,
+        Prefix::Half | Prefix::Whole => Prefix::Other,
+        _ => prefix,
     }
 }
 
 /// Whether a line that begins so is empty, or a comment.
-fn is_blank(front: Front) -> bool
-    ensures { result ≡ specs.is_blank front }
+fn is_blank(prefix: Prefix) -> bool
+    ensures { result ≡ specs.is_blank prefix }
 {
-    matches!(front, Front::Nothing | Front::Comment)
+    matches!(prefix, Prefix::Nothing | Prefix::Comment)
 }
 
 /// One dot more at the beginning of a line.
@@ -116,7 +116,7 @@ fn after_ignored(dots: Dots) -> Scan
 impl Page {
     /// At the beginning of a line.
     fn at_start(&mut self, byte: u8) -> Seen
-        ensures { met self.new result ≡ specs.at_start byte self.old }
+        ensures { offered self.new result ≡ specs.at_start byte self.old }
     {
         if byte == b'.' || byte == b'\'' {
             return self.turns(Scan::Control, Seen::taken(Act::Nothing));
@@ -135,7 +135,7 @@ impl Page {
 
     /// Text begins.
     fn text_begins(&mut self, byte: u8) -> Seen
-        ensures { met self.new result ≡ specs.text_begins byte self.old }
+        ensures { offered self.new result ≡ specs.text_begins byte self.old }
     {
         self.place.last = Last::Heading;
         self.turns(
@@ -146,7 +146,7 @@ impl Page {
 
     /// Where a cell of a row of text may begin.
     fn in_cell(&mut self, byte: u8) -> Seen
-        ensures { met self.new result ≡ specs.in_cell byte self.old }
+        ensures { offered self.new result ≡ specs.in_cell byte self.old }
     {
         match byte {
             b'\n' => self.turns(Scan::Start, Seen::taken(Act::Ends)),
@@ -168,7 +168,7 @@ impl Page {
 
     /// In a text line, after such a byte.
     fn in_text(&mut self, before: Before, byte: u8) -> Seen
-        ensures { met self.new result ≡ specs.in_text before byte self.old }
+        ensures { offered self.new result ≡ specs.in_text before byte self.old }
     {
         if byte == b'\n' {
             return self.turns(Scan::Start, Seen::taken(Act::Ends));
@@ -188,7 +188,7 @@ impl Page {
     /// A hyphen in a text line: after a letter it is held back, since a line may be broken after it before another; in an escape it
     /// stays.
     fn hyphen_in_text(&mut self, before: Before) -> Seen
-        ensures { met self.new result ≡ specs.hyphen_in_text before self.old }
+        ensures { offered self.new result ≡ specs.hyphen_in_text before self.old }
     {
         match before {
             Before::Letter => self.turns(Scan::Hyphen, Seen::taken(Act::Nothing)),
@@ -202,7 +202,7 @@ impl Page {
 
     /// After a hyphen that was held back.
     fn after_hyphen(&mut self, byte: u8) -> Seen
-        ensures { met self.new result ≡ specs.after_hyphen byte self.old }
+        ensures { offered self.new result ≡ specs.after_hyphen byte self.old }
     {
         let act = if is_letter(byte) {
             Act::Byte(b'-')
@@ -214,7 +214,7 @@ impl Page {
 
     /// After the control character.
     fn after_control(&mut self, byte: u8) -> Seen
-        ensures { met self.new result ≡ specs.after_control byte self.old }
+        ensures { offered self.new result ≡ specs.after_control byte self.old }
     {
         match byte {
             b' ' | b'\t' => Seen::taken(Act::Nothing),
@@ -226,7 +226,7 @@ impl Page {
 
     /// A name begins.
     fn name_begins(&mut self, byte: u8) -> Seen
-        ensures { met self.new result ≡ specs.name_begins byte self.old }
+        ensures { offered self.new result ≡ specs.name_begins byte self.old }
     {
         self.word = Name::of(&[byte]);
         self.turns(Scan::Name, Seen::taken(Act::Nothing))
@@ -234,7 +234,7 @@ impl Page {
 
     /// After the control character and a backslash: a comment, or a line that passes.
     fn after_escape(&mut self, byte: u8) -> Seen
-        ensures { met self.new result ≡ specs.after_escape byte self.old }
+        ensures { offered self.new result ≡ specs.after_escape byte self.old }
     {
         if byte == b'"' || byte == b'#' {
             return self.turns(Scan::Comment, Seen::taken(Act::Nothing));
@@ -245,7 +245,7 @@ impl Page {
 
     /// In a comment.
     fn in_comment(&mut self, byte: u8) -> Seen
-        ensures { met self.new result ≡ specs.in_comment byte self.old }
+        ensures { offered self.new result ≡ specs.in_comment byte self.old }
     {
         let scan = if byte == b'\n' {
             Scan::Start
@@ -257,7 +257,7 @@ impl Page {
 
     /// In the name of a control line.
     fn in_name(&mut self, byte: u8) -> Seen
-        ensures { met self.new result ≡ specs.in_name byte self.old }
+        ensures { offered self.new result ≡ specs.in_name byte self.old }
     {
         if ends_word(byte) || byte == b'\\' || self.word.is_full() {
             return self.named_line();
@@ -268,7 +268,7 @@ impl Page {
 
     /// Between words.
     fn between(&mut self, byte: u8) -> Seen
-        ensures { met self.new result ≡ specs.between byte self.old }
+        ensures { offered self.new result ≡ specs.between byte self.old }
     {
         if self.call.comment {
             return self.turns(Scan::Dropped, Seen::left(Act::Nothing));
@@ -284,7 +284,7 @@ impl Page {
 
     /// The rest of the line passes.
     fn in_rest(&mut self, byte: u8) -> Seen
-        ensures { met self.new result ≡ specs.in_rest byte self.old }
+        ensures { offered self.new result ≡ specs.in_rest byte self.old }
     {
         let scan = if byte == b'\n' {
             Scan::Start
@@ -296,7 +296,7 @@ impl Page {
 
     /// The rest of the line is dropped.
     fn dropped(&mut self, byte: u8) -> Seen
-        ensures { met self.new result ≡ specs.dropped byte self.old }
+        ensures { offered self.new result ≡ specs.dropped byte self.old }
     {
         if byte == b'\n' {
             return self.turns(Scan::Ends, Seen::left(Act::Nothing));
@@ -306,7 +306,7 @@ impl Page {
 
     /// Lines pass, up to one that begins with two dots.
     fn ignored(&mut self, dots: Dots, byte: u8) -> Seen
-        ensures { met self.new result ≡ specs.ignored dots byte self.old }
+        ensures { offered self.new result ≡ specs.ignored dots byte self.old }
     {
         let scan = if byte == b'\n' {
             after_ignored(dots)
@@ -317,45 +317,45 @@ impl Page {
     }
 
     /// Before a page is known to be one of mdoc.
-    fn asleep(&mut self, front: Front, lines: u8, byte: u8) -> Seen
-        ensures { met self.new result ≡ specs.asleep front lines byte self.old }
+    fn asleep(&mut self, prefix: Prefix, lines: u8, byte: u8) -> Seen
+        ensures { offered self.new result ≡ specs.asleep prefix lines byte self.old }
     {
-        if let Some(more) = front_grows(front, byte) {
+        if let Some(more) = prefix_grows(prefix, byte) {
             return self.turns(Scan::Asleep(more, lines), Seen::taken(Act::Nothing));
         }
-        match front {
-            Front::Whole if ends_word(byte) => self.wakes(),
-            Front::Dot | Front::Half | Front::Whole => self.turns(
-                Scan::Asleep(given_up(front), lines),
-                Seen::left(Act::Front(front)),
+        match prefix {
+            Prefix::Whole if ends_word(byte) => self.wakes(),
+            Prefix::Dot | Prefix::Half | Prefix::Whole => self.turns(
+                Scan::Asleep(given_up(prefix), lines),
+                Seen::left(Act::Prefix(prefix)),
             ),
-            _ => self.passes(front, lines, byte),
+            _ => self.passes(prefix, lines, byte),
         }
     }
 
     /// The page is one of mdoc.
     fn wakes(&mut self) -> Seen
-        ensures { met self.new result ≡ specs.wakes self.old }
+        ensures { offered self.new result ≡ specs.wakes self.old }
     {
         self.call = call_of(Macro::Date);
         self.turns(Scan::Between, Seen::left(Act::Nothing))
     }
 
     /// A byte passes.
-    fn passes(&mut self, front: Front, lines: u8, byte: u8) -> Seen
-        ensures { met self.new result ≡ specs.passes front lines byte self.old }
+    fn passes(&mut self, prefix: Prefix, lines: u8, byte: u8) -> Seen
+        ensures { offered self.new result ≡ specs.passes prefix lines byte self.old }
     {
-        self.turns(passes_to(front, lines, byte), Seen::taken(Act::Byte(byte)))
+        self.turns(passes_to(prefix, lines, byte), Seen::taken(Act::Byte(byte)))
     }
 
     /// What a byte does.
     #[inline(always)]
-    #[tactic(auto, unfolding(crate::specs::Scanning::meet))]
-    pub(crate) fn meet(&mut self, byte: u8) -> Seen
-        ensures { met self.new result ≡ specs.meet byte self.old }
+    #[tactic(auto, unfolding(crate::specs::Scanning::offer))]
+    pub(crate) fn offer(&mut self, byte: u8) -> Seen
+        ensures { offered self.new result ≡ specs.offer byte self.old }
     {
         match self.scan {
-            Scan::Asleep(front, lines) => self.asleep(front, lines, byte),
+            Scan::Asleep(prefix, lines) => self.asleep(prefix, lines, byte),
             Scan::Start => self.at_start(byte),
             Scan::Text(before) => self.in_text(before, byte),
             Scan::Hyphen => self.after_hyphen(byte),
@@ -371,14 +371,14 @@ impl Page {
             Scan::QuotedEscape => self.in_escape(byte, true),
             Scan::Closing => self.closing(byte),
             Scan::Named(escape, quoted) => self.in_name_of(escape, quoted, byte),
-            _ => self.meet_whole(byte),
+            _ => self.offer_whole(byte),
         }
     }
 
     /// What it does where a word is whole, or a line ends or passes.
-    #[tactic(auto, unfolding(crate::specs::Scanning::meet_whole))]
-    fn meet_whole(&mut self, byte: u8) -> Seen
-        ensures { met self.new result ≡ specs.meet_whole byte self.old }
+    #[tactic(auto, unfolding(crate::specs::Scanning::offer_whole))]
+    fn offer_whole(&mut self, byte: u8) -> Seen
+        ensures { offered self.new result ≡ specs.offer_whole byte self.old }
     {
         match self.scan {
             Scan::Given(quoted) => self.given(quoted),
@@ -396,17 +396,17 @@ impl Page {
 }
 
 /// What comes after a byte that passes, in a line that begins so. So many came before.
-pub(crate) fn passes_to(front: Front, lines: u8, byte: u8) -> Scan
-    ensures { result ≡ specs.passes_to front lines byte }
+pub(crate) fn passes_to(prefix: Prefix, lines: u8, byte: u8) -> Scan
+    ensures { result ≡ specs.passes_to prefix lines byte }
 {
     if byte != b'\n' {
-        return Scan::Asleep(front_then(front, byte), lines);
+        return Scan::Asleep(prefix_then(prefix, byte), lines);
     }
-    if is_blank(front) {
-        return Scan::Asleep(Front::Nothing, lines);
+    if is_blank(prefix) {
+        return Scan::Asleep(Prefix::Nothing, lines);
     }
     if lines < MOST_LINES - 1 {
-        return Scan::Asleep(Front::Nothing, lines + 1);
+        return Scan::Asleep(Prefix::Nothing, lines + 1);
     }
     Scan::Passes
 }

@@ -1,4 +1,4 @@
-//! What a meeting comes to.
+//! What a step comes to.
 ghost use Rattle.std.specs.Prelude.{◌≡◌};
 ghost use Rattle.mdoc_converter.specs.Seeing as specs;
 
@@ -15,7 +15,7 @@ pub(crate) struct Seen {
     pub third: Act,
     /// What becomes of the open blocks.
     pub stack: Stack,
-    /// The byte is taken: one that is left is met again.
+    /// The byte is taken: one that is left is offered again.
     pub takes: bool,
 }
 

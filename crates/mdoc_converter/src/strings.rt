@@ -8,7 +8,7 @@ use super::macros::looked_up;
 use super::page::{Block, Row, Scan};
 use super::pending::Pending;
 use super::reader::Reader;
-use super::texts::front_of;
+use super::texts::prefix_of;
 use nr_vectors::slice_vec::SliceVec;
 
 /// What a byte does to that.
@@ -110,8 +110,8 @@ fn after_star(byte: u8) -> Next
 }
 
 /// What a byte does to what was read of an escape, or begins.
-fn met_by(pending: Pending, byte: u8, takes: bool) -> Next
-    ensures { result ≡ strings.met_by pending byte takes }
+fn offered_by(pending: Pending, byte: u8, takes: bool) -> Next
+    ensures { result ≡ strings.offered_by pending byte takes }
 {
     match pending {
         Pending::Nothing if takes && byte == b'\\' => Next::Waits(Pending::Backslash),
@@ -355,7 +355,7 @@ impl Reader {
         ensures blocks { blocks.new.capacity ≡ blocks.old.capacity }
     {
         let pending = self.pending;
-        match met_by(pending, byte, takes_strings(self.page.scan)) {
+        match offered_by(pending, byte, takes_strings(self.page.scan)) {
             Next::Waits(more) => {
                 self.pending = more;
                 0
@@ -384,8 +384,8 @@ impl Reader {
         ensures blocks { blocks.new.capacity ≡ blocks.old.capacity }
     {
         match self.page.scan {
-            Scan::Asleep(front, _) => {
-                out.extend(front_of(front));
+            Scan::Asleep(prefix, _) => {
+                out.extend(prefix_of(prefix));
                 0
             }
             Scan::Passes => 0,

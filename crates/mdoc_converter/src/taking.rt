@@ -1,12 +1,12 @@
 //! What the words of a macro are read for.
 ghost use Rattle.std.specs.Prelude.{◌≡◌, ◌≤◌};
-ghost use Rattle.mdoc_converter.specs.Seeing.{met};
+ghost use Rattle.mdoc_converter.specs.Seeing.{offered};
 ghost use Rattle.mdoc_converter.specs.Taking as specs;
 
 use super::acts::{Act, Request, Text};
 use super::calls::hanging;
 use super::macros::{Font, Macro, Pair, System, part_font};
-use super::page::{Behind, Last, Page, Parameters, Scan, Section, Split};
+use super::page::{Following, Last, Page, Parameters, Scan, Section, Split};
 use super::seen::Seen;
 use nr_units::Name;
 
@@ -34,12 +34,12 @@ impl Page {
     /// A word that is read for the macro that takes words.
     #[tactic(auto, unfolding(crate::specs::Taking::argument))]
     pub(crate) fn argument(&mut self, quoted: bool) -> Seen
-        ensures { met self.new result ≡ specs.argument quoted self.old }
+        ensures { offered self.new result ≡ specs.argument quoted self.old }
     {
-        if !quoted && is_bar(self.word.as_bytes()) && self.is_due() {
+        if !quoted && is_bar(self.word.as_bytes()) && self.is_pending() {
             return self.leaves();
         }
-        if self.is_enclosure_due() && (quoted || !is_opening(self.word.as_bytes())) {
+        if self.is_enclosure_pending() && (quoted || !is_opening(self.word.as_bytes())) {
             return self.leaves();
         }
         self.scan = Scan::Between;
@@ -57,7 +57,7 @@ impl Page {
     /// By the macro that takes it.
     #[tactic(auto, unfolding(crate::specs::Taking::taken_word))]
     fn taken(&mut self) -> Seen
-        ensures { met self.new result ≡ specs.taken_word self.old }
+        ensures { offered self.new result ≡ specs.taken_word self.old }
     {
         match self.call.taker {
             Macro::Words(font) => Seen::left(Act::Word(font)),
@@ -83,7 +83,7 @@ impl Page {
 
     /// By a macro that takes one word.
     fn taken_alone(&mut self) -> Seen
-        ensures { met self.new result ≡ specs.taken_alone self.old }
+        ensures { offered self.new result ≡ specs.taken_alone self.old }
     {
         match self.call.taker {
             Macro::Att => self.alone(Act::Att),
@@ -101,7 +101,7 @@ impl Page {
 
     /// The only word that a macro takes.
     fn alone(&mut self, act: Act) -> Seen
-        ensures { met self.new result ≡ specs.alone act self.old }
+        ensures { offered self.new result ≡ specs.alone act self.old }
     {
         self.takes_no_more();
         Seen::left(act)
@@ -118,7 +118,7 @@ impl Page {
 
     /// A word of `.Nm`: the first of all is the page's name.
     fn named(&mut self) -> Seen
-        ensures { met self.new result ≡ specs.named self.old }
+        ensures { offered self.new result ≡ specs.named self.old }
     {
         if matches!(self.place.section, Section::Condition) {
             self.named_under_condition();
@@ -149,7 +149,7 @@ impl Page {
 
     /// A parameter: commas stand between them.
     fn parameter(&mut self) -> Seen
-        ensures { met self.new result ≡ specs.parameter self.old }
+        ensures { offered self.new result ≡ specs.parameter self.old }
     {
         if matches!(self.place.parameters, Parameters::Outside) {
             return Seen::left(Act::Word(Font::Italic));
@@ -167,7 +167,7 @@ impl Page {
 
     /// A page, and then its section.
     fn reference(&mut self) -> Seen
-        ensures { met self.new result ≡ specs.reference self.old }
+        ensures { offered self.new result ≡ specs.reference self.old }
     {
         if !self.call.some {
             return Seen::left(Act::Word(Font::Roman));
@@ -182,7 +182,7 @@ impl Page {
 
     /// A system and its version, which stays with its name.
     fn version(&mut self, system: System) -> Seen
-        ensures { met self.new result ≡ specs.version system self.old }
+        ensures { offered self.new result ≡ specs.version system self.old }
     {
         self.takes_no_more();
         Seen::three(
@@ -194,7 +194,7 @@ impl Page {
 
     /// Authors begin lines, or not.
     fn splits(&mut self, split: Split) -> Seen
-        ensures { met self.new result ≡ specs.splits split self.old }
+        ensures { offered self.new result ≡ specs.splits split self.old }
     {
         self.place.split = split;
         Seen::left(Act::Nothing)
@@ -202,7 +202,7 @@ impl Page {
 
     /// An author, or how authors are set.
     fn author(&mut self) -> Seen
-        ensures { met self.new result ≡ specs.author self.old }
+        ensures { offered self.new result ≡ specs.author self.old }
     {
         if self.word.as_bytes() == b"-split".as_slice() {
             return self.splits(Split::Always);
@@ -216,7 +216,7 @@ impl Page {
     /// An author by name.
     #[tactic(auto, unfolding(crate::specs::Taking::named_author))]
     fn named_author(&mut self) -> Seen
-        ensures { met self.new result ≡ specs.named_author self.old }
+        ensures { offered self.new result ≡ specs.named_author self.old }
     {
         if self.call.first && !self.call.some {
             return self.author_line();
@@ -226,7 +226,7 @@ impl Page {
 
     /// An author who may begin a line.
     fn author_line(&mut self) -> Seen
-        ensures { met self.new result ≡ specs.author_line self.old }
+        ensures { offered self.new result ≡ specs.author_line self.old }
     {
         match self.place.split {
             Split::Always => Seen::two(Act::Request(Request::Break), Act::Word(Font::Roman)),
@@ -240,7 +240,7 @@ impl Page {
 
     /// The version of BSD.
     fn release(&mut self) -> Seen
-        ensures { met self.new result ≡ specs.release self.old }
+        ensures { offered self.new result ≡ specs.release self.old }
     {
         self.call.taker = Macro::BsdRelease;
         Seen::two(Act::Word(Font::Roman), Act::Close(Text::Bsd))
@@ -248,11 +248,11 @@ impl Page {
 
     /// A word that the next one joins.
     pub(crate) fn prefix(&mut self) -> Seen
-        ensures { met self.new result ≡ specs.prefix self.old }
+        ensures { offered self.new result ≡ specs.prefix self.old }
     {
         self.takes_no_more();
-        if self.lay.front {
-            self.call.behind = Behind::Joint;
+        if self.lay.partial {
+            self.call.following = Following::Joint;
             return Seen::left(Act::Word(Font::Roman));
         }
         Seen::two(Act::Word(Font::Roman), Act::Join)
@@ -260,7 +260,7 @@ impl Page {
 
     /// A function, and then its parameters.
     fn function(&mut self) -> Seen
-        ensures { met self.new result ≡ specs.function self.old }
+        ensures { offered self.new result ≡ specs.function self.old }
     {
         if !self.call.some {
             return self.function_begins();
@@ -274,10 +274,10 @@ impl Page {
 
     /// The name of a function, and a parenthesis, which stands after all of the name.
     fn function_begins(&mut self) -> Seen
-        ensures { met self.new result ≡ specs.function_begins self.old }
+        ensures { offered self.new result ≡ specs.function_begins self.old }
     {
-        if self.lay.front {
-            self.call.behind = Behind::Parenthesis;
+        if self.lay.partial {
+            self.call.following = Following::Parenthesis;
             return Seen::left(Act::Word(Font::Bold));
         }
         Seen::three(
@@ -289,7 +289,7 @@ impl Page {
 
     /// A function whose parameters come on other lines.
     fn function_opens(&mut self) -> Seen
-        ensures { met self.new result ≡ specs.function_opens self.old }
+        ensures { offered self.new result ≡ specs.function_opens self.old }
     {
         self.takes_no_more();
         self.place.parameters = Parameters::First;
@@ -298,11 +298,11 @@ impl Page {
 
     /// A file that is included.
     fn include(&mut self) -> Seen
-        ensures { met self.new result ≡ specs.include self.old }
+        ensures { offered self.new result ≡ specs.include self.old }
     {
         self.takes_no_more();
-        if self.lay.front {
-            self.call.behind = Behind::Angle;
+        if self.lay.partial {
+            self.call.following = Following::Angle;
             return Seen::two(
                 Act::Text(Text::Opening(Pair::Signs)),
                 Act::Joined(Font::Italic),
@@ -317,7 +317,7 @@ impl Page {
 
     /// A link, which a string keeps up to the end of its name. On a line that can't be broken off it goes out itself.
     fn link(&mut self) -> Seen
-        ensures { met self.new result ≡ specs.link self.old }
+        ensures { offered self.new result ≡ specs.link self.old }
     {
         if self.call.some {
             return self.link_name();
@@ -339,7 +339,7 @@ impl Page {
 
     /// A word of the link's name: the string is set before the first.
     fn link_name(&mut self) -> Seen
-        ensures { met self.new result ≡ specs.link_name self.old }
+        ensures { offered self.new result ≡ specs.link_name self.old }
     {
         if self.call.listed {
             return Seen::left(Act::Word(Font::Italic));

@@ -4,7 +4,7 @@ ghost use Rattle.mdoc_converter.specs.Texts as specs;
 
 use super::acts::{Request, Sized, Text};
 use super::macros::{Font, Pair, System};
-use super::page::Front;
+use super::page::Prefix;
 
 /// What begins a font.
 pub(crate) fn font_begin(font: Font) -> &'static [u8]
@@ -136,14 +136,14 @@ pub(crate) fn text_of(text: Text) -> &'static [u8]
 }
 
 /// What was read of `.Dd`.
-pub(crate) fn front_of(front: Front) -> &'static [u8]
-    ensures value { result.now ≡ specs.front_of front }
+pub(crate) fn prefix_of(prefix: Prefix) -> &'static [u8]
+    ensures value { result.now ≡ specs.prefix_of prefix }
     ensures few { length result.now ≤ 3 }
 {
-    match front {
-        Front::Dot => b".",
-        Front::Half => b".D",
-        Front::Whole => b".Dd",
+    match prefix {
+        Prefix::Dot => b".",
+        Prefix::Half => b".D",
+        Prefix::Whole => b".Dd",
         _ => b"",
     }
 }

@@ -31,7 +31,7 @@ ghost use Rattle.mdoc_converter.specs.WordLaws.{HeadingsAreSaid, LastIsClosedFir
 /// where a list or a display begins, fewer than 64 are open around the innermost. Outside of it are macros that print
 /// their words otherwise by the table, and such as it has not, text lines that begin with a blank, strings, and other
 /// requests. (`lines` of `words_are_said`)
-/// Proved: At the end of any line, where what was due was said, what closes the enclosures of the line goes out, the
+/// Proved: At the end of any line, where what was pending was said, what closes the enclosures of the line goes out, the
 /// last of them first, and then the line ends as one that opened none. (`enclosures` of `words_are_said`)
 pub fn words_are_said()
     ensures text { TextIsSaid }

@@ -1,12 +1,12 @@
 //! A word is whole: it is a closing mark, calls a macro, or is read for one; or it is longer than what is kept of one.
 ghost use Rattle.std.specs.Prelude.{◌≡◌, ◌≤◌};
-ghost use Rattle.mdoc_converter.specs.Seeing.{met};
+ghost use Rattle.mdoc_converter.specs.Seeing.{offered};
 ghost use Rattle.mdoc_converter.specs.Words as specs;
 
 use super::acts::{Act, Text};
 use super::calls::called_by;
 use super::macros::{Font, Macro, Pair};
-use super::page::{Behind, Inside, Page, Scan};
+use super::page::{Following, Inside, Page, Scan};
 use super::seen::Seen;
 use nr_units::Name;
 
@@ -42,8 +42,8 @@ fn begins_anew(called: Macro) -> bool
 }
 
 /// What takes the words after a long one: those after the first of a heading are read as on other lines.
-fn taken_behind(taker: Macro) -> Macro
-    ensures { result ≡ specs.taken_behind taker }
+fn taken_after(taker: Macro) -> Macro
+    ensures { result ≡ specs.taken_after taker }
 {
     match taker {
         Macro::Section => Macro::Words(Font::Roman),
@@ -52,18 +52,18 @@ fn taken_behind(taker: Macro) -> Macro
 }
 
 /// The last part of a long word, and what stands after it.
-fn after_long(behind: Behind) -> Seen
-    ensures { result ≡ specs.after_long behind }
+fn after_long(following: Following) -> Seen
+    ensures { result ≡ specs.after_long following }
 {
-    match behind {
-        Behind::Nothing => Seen::left(Act::LastMore),
-        Behind::Parenthesis => Seen::three(
+    match following {
+        Following::Nothing => Seen::left(Act::LastMore),
+        Following::Parenthesis => Seen::three(
             Act::LastMore,
             Act::Close(Text::Opening(Pair::Parentheses)),
             Act::Join,
         ),
-        Behind::Angle => Seen::two(Act::LastMore, Act::Close(Text::Closing(b'>'))),
-        Behind::Joint => Seen::two(Act::LastMore, Act::Join),
+        Following::Angle => Seen::two(Act::LastMore, Act::Close(Text::Closing(b'>'))),
+        Following::Joint => Seen::two(Act::LastMore, Act::Join),
     }
 }
 
@@ -80,7 +80,7 @@ fn taken_after_mark(taker: Macro) -> Macro
 impl Page {
     /// A word is whole.
     pub(crate) fn given(&mut self, quoted: bool) -> Seen
-        ensures { met self.new result ≡ specs.given quoted self.old }
+        ensures { offered self.new result ≡ specs.given quoted self.old }
     {
         if self.call.going {
             return self.ends_long();
@@ -102,7 +102,7 @@ impl Page {
     /// A word is a closing mark, calls a macro, or is read for one.
     #[tactic(auto, unfolding(crate::specs::Words::parsed))]
     fn parsed(&mut self, quoted: bool) -> Seen
-        ensures { met self.new result ≡ specs.parsed quoted self.old }
+        ensures { offered self.new result ≡ specs.parsed quoted self.old }
     {
         match closing_mark(quoted, self.word.as_bytes()) {
             Some(mark) => self.mark(mark),
@@ -113,7 +113,7 @@ impl Page {
     /// Marks that were held back come before a word that is none.
     #[tactic(auto, unfolding(crate::specs::Words::unmarked))]
     fn unmarked(&mut self, quoted: bool) -> Seen
-        ensures { met self.new result ≡ specs.unmarked quoted self.old }
+        ensures { offered self.new result ≡ specs.unmarked quoted self.old }
     {
         if !self.marks.is_empty() {
             return Seen::left(Act::Marks);
@@ -127,9 +127,9 @@ impl Page {
     /// A closing mark comes: it is held back, as it may be the last of the line.
     #[tactic(auto, unfolding(crate::specs::Words::mark))]
     fn mark(&mut self, mark: u8) -> Seen
-        ensures { met self.new result ≡ specs.mark mark self.old }
+        ensures { offered self.new result ≡ specs.mark mark self.old }
     {
-        if self.is_due() {
+        if self.is_pending() {
             return self.stands();
         }
         if self.is_text() {
@@ -149,7 +149,7 @@ impl Page {
     /// A mark comes first: the macro stands for text, and may go on after marks.
     #[tactic(auto, unfolding(crate::specs::Words::stands))]
     fn stands(&mut self) -> Seen
-        ensures { met self.new result ≡ specs.stands self.old }
+        ensures { offered self.new result ≡ specs.stands self.old }
     {
         let taker = self.call.taker;
         let seen = self.leaves();
@@ -172,7 +172,7 @@ impl Page {
 
     /// Such a word is read for the macro.
     fn mark_as_word(&mut self) -> Seen
-        ensures { met self.new result ≡ specs.mark_as_word self.old }
+        ensures { offered self.new result ≡ specs.mark_as_word self.old }
     {
         self.scan = Scan::Between;
         if matches!(self.call.taker, Macro::Prefix) {
@@ -184,30 +184,30 @@ impl Page {
 
     /// The last part of a long word.
     fn ends_long(&mut self) -> Seen
-        ensures { met self.new result ≡ specs.ends_long self.old }
+        ensures { offered self.new result ≡ specs.ends_long self.old }
     {
         self.call.going = false;
         self.scan = Scan::Between;
-        let behind = self.call.behind;
-        self.call.behind = Behind::Nothing;
-        self.call.taker = taken_behind(self.call.taker);
-        after_long(behind)
+        let following = self.call.following;
+        self.call.following = Following::Nothing;
+        self.call.taker = taken_after(self.call.taker);
+        after_long(following)
     }
 
-    /// The front of a long word is read as a word, and more of it comes.
+    /// The prefix of a long word is read as a word, and more of it comes.
     fn long_begins(&mut self, inside: Inside) -> Seen
-        ensures { met self.new result ≡ specs.long_begins inside self.old }
+        ensures { offered self.new result ≡ specs.long_begins inside self.old }
     {
-        self.lay.front = true;
+        self.lay.partial = true;
         self.call.going = true;
         let seen = self.argument(true);
         self.scan = Scan::Goes(inside);
         seen
     }
 
-    /// A word is longer than what is kept of one: its front goes out, or a further part.
+    /// A word is longer than what is kept of one: its prefix goes out, or a further part.
     pub(crate) fn long(&mut self, inside: Inside) -> Seen
-        ensures { met self.new result ≡ specs.long inside self.old }
+        ensures { offered self.new result ≡ specs.long inside self.old }
     {
         if self.call.going {
             self.scan = Scan::Goes(inside);
@@ -216,7 +216,7 @@ impl Page {
         if !self.marks.is_empty() {
             return Seen::left(Act::Marks);
         }
-        if self.is_enclosure_due() {
+        if self.is_enclosure_pending() {
             return self.leaves();
         }
         self.long_begins(inside)
@@ -224,7 +224,7 @@ impl Page {
 
     /// A long word goes on.
     pub(crate) fn goes_on(&mut self, inside: Inside) -> Seen
-        ensures { met self.new result ≡ specs.goes_on inside self.old }
+        ensures { offered self.new result ≡ specs.goes_on inside self.old }
     {
         self.word = Name::new();
         self.scan = match inside {

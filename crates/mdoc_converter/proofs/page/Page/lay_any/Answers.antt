@@ -8,5 +8,5 @@ returns-in-Byte-clause-few c = grind (arith, common_steps)
 pub returns-in-Hyphen-clause-few : goal.returns-in-Hyphen-clause-few
 returns-in-Hyphen-clause-few c = grind (arith, common_steps)
 
-pub returns-in-Front-clause-few : goal.returns-in-Front-clause-few
-returns-in-Front-clause-few c = grind (arith, common_steps)
+pub returns-in-Prefix-clause-few : goal.returns-in-Prefix-clause-few
+returns-in-Prefix-clause-few c = grind (arith, common_steps)
