@@ -13,15 +13,15 @@ use Rattle.preconv_converter.specs.declared.half.Mark.TheVariants.{Letter, Openi
 use Rattle.preconv_converter.specs.declared.reader.Reader.{Reader}
 use Rattle.preconv_converter.specs.declared.reader.Pending.TheVariants.{Nothing}
 use Rattle.preconv_converter.specs.Half.{is_plain, is_open}
-use Rattle.preconv_converter.specs.Hyphens.{mark_of, followed, placed, gone_by, turns_hyphens, closes, carriage_return, is_ascii_letter, is_opening, is_stop, is_closing, is_closer, has_ended, mark_after, line_behind}
+use Rattle.preconv_converter.specs.Hyphens.{mark_of, followed, placed, gone_by, turns_hyphens, closes, carriage_return, is_ascii_letter, is_opening, is_stop, is_closing, is_closer, has_ended, mark_after, line_after}
 use Rattle.preconv_converter.specs.declared.words.Words.{Words}
 use Rattle.preconv_converter.specs.declared.words.Place.{Place}
 use Rattle.preconv_converter.specs.declared.words.Place.TheVariants.{Quoted}
 use Rattle.preconv_converter.specs.declared.words.Class.{Class}
 use Rattle.preconv_converter.specs.declared.words.Class.TheVariants.{Space, Quote, Other as AnyClass}
 use Rattle.preconv_converter.specs.Words.{class_of, goes_on_at, goes_on_with, goes_on_with_space, spaced_at, after_space, is_ninth, words_at}
-use Rattle.preconv_converter.specs.Meeting.{is_raw, may_pass, is_as_is, is_as_is_at, line_on, line_taken, taken_as_is}
-use Rattle.preconv_converter.specs.Reading.{told, with_half, read}
+use Rattle.preconv_converter.specs.Offering.{is_raw, may_pass, is_as_is, is_as_is_at, line_on, line_taken, taken_as_is}
+use Rattle.preconv_converter.specs.Reading.{emitted, with_half, read}
 use Rattle.preconv_converter.specs.Passing.{Passes}
 use Rattle.preconv_converter.specs.Runs.{goes_on_text, goes_on_word, goes_on_after, may_close, run_at, run_len, last_before, after_run}
 use Rattle.preconv_converter.proofs.TextRuns.{run_goes, run_within}
@@ -246,7 +246,7 @@ placed_open x h = open_by h.manual x h
 taken_is : (b : ℕ) (h : Half) → (b == code "\n") ≡ false → line_taken h.line b ≡ h.line → taken_as_is b h ≡ placed (mark_of b) h
 taken_is b h line same =
     ap (λ (l : Line). gone_by b (record h { line = l })) same
-    ∙ ap (λ (x : Bool). if x then line_behind h else placed (mark_of b) h) line
+    ∙ ap (λ (x : Bool). if x then line_after h else placed (mark_of b) h) line
 
 -- ---- what stands before the next character is the last byte of a run
 
@@ -304,11 +304,11 @@ last_open false x h = refl
 -- ---- a run
 
 run_step : (a b : ℕ) (l : Line) (r : Reader) → r.pending ≡ Nothing → is_open r.half ≡ true → r.half.line ≡ l → run_in l a b ≡ true
-    → read b r ≡ told (with_half (placed (mark_of b) r.half) r) (b ∷ []) 1
+    → read b r ≡ emitted (with_half (placed (mark_of b) r.half) r) (b ∷ []) 1
 run_step a b l r none free line p =
     let on : line_taken r.half.line b ≡ r.half.line = ap (λ (m : Line). line_taken m b) line ∙ same_line l a b p ∙ sym line in
     read_as_is b r none (ap is_raw line ∙ not_raw l a b p) (as_is l a b r.half line free p)
-    ∙ ap (λ (h : Half). told (with_half h r) (b ∷ []) 1) (taken_is b r.half (run_newline a b (is_run l a b p)) on)
+    ∙ ap (λ (h : Half). emitted (with_half h r) (b ∷ []) 1) (taken_is b r.half (run_newline a b (is_run l a b p)) on)
 
 plainly : (x y : Bool) → (x || (y && false)) ≡ true → x ≡ true
 plainly true y p = refl
@@ -325,21 +325,21 @@ first_text (lines.Words words) b p = and-first (goes_on_text b) (goes_on_with (c
 first_text line b p = absurd (let no : false ≡ true = p in cc)
 
 run_first : (b : ℕ) (l : Line) (r : Reader) → r.pending ≡ Nothing → is_open r.half ≡ true → r.half.line ≡ l → run_in l (code ".") b ≡ true
-    → read b r ≡ told (with_half (after_run b r.half) r) (b ∷ []) 1
+    → read b r ≡ emitted (with_half (after_run b r.half) r) (b ∷ []) 1
 unfolding last_by
 run_first b l r none free line p =
     run_step (code ".") b l r none free line p
-    ∙ ap (λ (h : Half). told (with_half h r) (b ∷ []) 1) (first_by r.half.manual (mark_of b) r.half (no_closer b (first_text l b p)))
+    ∙ ap (λ (h : Half). emitted (with_half h r) (b ∷ []) 1) (first_by r.half.manual (mark_of b) r.half (no_closer b (first_text l b p)))
 
 run_next : (a b : ℕ) (l : Line) (r : Reader) → r.pending ≡ Nothing → is_open r.half ≡ true → r.half.line ≡ l → run_in l a b ≡ true
-    → read b (with_half (after_run a r.half) r) ≡ told (with_half (after_run b r.half) r) (b ∷ []) 1
+    → read b (with_half (after_run a r.half) r) ≡ emitted (with_half (after_run b r.half) r) (b ∷ []) 1
 unfolding last_by
 run_next a b l r none free line p =
     let m = r.half.manual in
     let x = mark_of a in
     let s = with_half (after_run a r.half) r in
     run_step a b l s none (last_open m x r.half ∙ free) (last_line m x r.half ∙ line) p
-    ∙ ap (λ (h : Half). told (with_half h r) (b ∷ []) 1) (next_by m x (mark_of b) r.half refl (no_end a b (is_run l a b p)))
+    ∙ ap (λ (h : Half). emitted (with_half h r) (b ∷ []) 1) (next_by m x (mark_of b) r.half refl (no_end a b (is_run l a b p)))
 
 run_passes : (n : ℕ) (bs : List ℕ) (l : Line) (r : Reader) → r.pending ≡ Nothing → is_open r.half ≡ true → r.half.line ≡ l
     → ((i : ℕ) → i < n + 1 → run_in l (get_or (code "." ∷ bs) i 0) (get_or bs i 0) ≡ true) → n < length bs

@@ -14,11 +14,11 @@ use Rattle.preconv_converter.specs.declared.reader.Reader.{Reader}
 use Rattle.preconv_converter.specs.declared.reader.Pending.TheVariants.{Nothing, One, Two, Three}
 use Rattle.preconv_converter.specs.Numbers.{is_within}
 use Rattle.preconv_converter.specs.Saying.{sent}
-use Rattle.preconv_converter.specs.Lines.{behind_ignored, one_dot_more, no_dot, line_passed, passing}
-use Rattle.preconv_converter.specs.Meeting.{is_raw}
-use Rattle.preconv_converter.specs.Reading.{Told, is_lead, is_tail, is_second, low_six, told, behind, then_told, with_half, pending_with, heard, stray, fresh, apart, whole, heard_byte, read, fed}
+use Rattle.preconv_converter.specs.Lines.{after_ignored, one_dot_more, no_dot, line_passed, passing}
+use Rattle.preconv_converter.specs.Offering.{is_raw}
+use Rattle.preconv_converter.specs.Reading.{Emitted, is_lead, is_tail, is_second, low_six, emitted, preceded, then_emitted, with_half, pending_with, heard, stray, fresh, apart, whole, heard_byte, read, fed}
 use Rattle.preconv_converter.specs.Characters.{coming_of, read_character, read_characters}
-use Rattle.preconv_converter.proofs.Reading.{told-eq, behind-none, fed-append}
+use Rattle.preconv_converter.proofs.Reading.{emitted-eq, preceded-none, fed-append}
 use Rattle.preconv_converter.proofs.Plain.{and-first, and-second, none_heard, nothing_pending}
 use Rattle.preconv_converter.proofs.Steps.{heard-stays}
 
@@ -45,35 +45,35 @@ tail b low high = within 128 191 b low (omega (arith, high))
 -- ---- one after the other
 
 pub cooked_read : (b : ℕ) (r : Reader) → is_raw r.half.line ≡ false → read b r ≡ heard_byte b r
-cooked_read b r cooked = ap (λ (x : Bool). if x then told (with_half (passing b r.half) r) (sent r.table b ∷ []) 1 else heard_byte b r) cooked
+cooked_read b r cooked = ap (λ (x : Bool). if x then emitted (with_half (passing b r.half) r) (sent r.table b ∷ []) 1 else heard_byte b r) cooked
 
 fresh_read : (b : ℕ) (r : Reader) → is_raw r.half.line ≡ false → r.pending ≡ Nothing → read b r ≡ fresh b r
 fresh_read b r cooked none = cooked_read b r cooked ∙ nothing_pending b r none
 
-pub silent : (b : ℕ) (r p : Reader) (bs : List ℕ) → read b r ≡ told p [] 0 → fed r (b ∷ bs) ≡ fed p bs
-silent b r p bs e = ap (λ (t : Told). then_told t (λ s. fed s bs)) e ∙ behind-none (fed p bs)
+pub silent : (b : ℕ) (r p : Reader) (bs : List ℕ) → read b r ≡ emitted p [] 0 → fed r (b ∷ bs) ≡ fed p bs
+silent b r p bs e = ap (λ (t : Emitted). then_emitted t (λ s. fed s bs)) e ∙ preceded-none (fed p bs)
 
 no_more : (n : ℕ) → n + 0 ≡ n
 no_more n = omega arith
 
-pub last : (b : ℕ) (r : Reader) (t : Told) → read b r ≡ t → fed r (b ∷ []) ≡ t
-last b r t e = ap (λ (u : Told). then_told u (λ s. told s [] 0)) e ∙ told-eq _ _ _ _ _ _ refl (append-nil t.bytes) (no_more t.steps)
+pub last : (b : ℕ) (r : Reader) (t : Emitted) → read b r ≡ t → fed r (b ∷ []) ≡ t
+last b r t e = ap (λ (u : Emitted). then_emitted u (λ s. emitted s [] 0)) e ∙ emitted-eq _ _ _ _ _ _ refl (append-nil t.bytes) (no_more t.steps)
 
-pub lead : (a : ℕ) (r : Reader) → 194 ≤ a → a ≤ 244 → is_raw r.half.line ≡ false → r.pending ≡ Nothing → read a r ≡ told (pending_with (One a) r) [] 0
+pub lead : (a : ℕ) (r : Reader) → 194 ≤ a → a ≤ 244 → is_raw r.half.line ≡ false → r.pending ≡ Nothing → read a r ≡ emitted (pending_with (One a) r) [] 0
 lead a r low high cooked none =
     fresh_read a r cooked none
-    ∙ ap (λ (x : Bool). if x then heard (Byte a) r else (if is_lead a then told (pending_with (One a) r) [] 0 else stray a r)) (le-ltb a 127 (omega (arith, low)))
-    ∙ ap (λ (x : Bool). if x then told (pending_with (One a) r) [] 0 else stray a r) (within 194 244 a low high)
+    ∙ ap (λ (x : Bool). if x then heard (Byte a) r else (if is_lead a then emitted (pending_with (One a) r) [] 0 else stray a r)) (le-ltb a 127 (omega (arith, low)))
+    ∙ ap (λ (x : Bool). if x then emitted (pending_with (One a) r) [] 0 else stray a r) (within 194 244 a low high)
 
 -- a character is whole
-met : (k c : ℕ) (r : Reader) → r.pending ≡ Nothing → k ≡ c → 127 ≤ c → heard (Wide k) (pending_with Nothing r) ≡ heard (coming_of c) r
-met k c r none e l =
+offered : (k c : ℕ) (r : Reader) → r.pending ≡ Nothing → k ≡ c → 127 ≤ c → heard (Wide k) (pending_with Nothing r) ≡ heard (coming_of c) r
+offered k c r none e l =
     ap (λ (s : Reader). heard (Wide k) s) (none_heard r.pending r none refl)
     ∙ ap (λ (n : ℕ). heard (Wide n) r) e
     ∙ ap (λ (x : Bool). heard (if x then Byte c else Wide c) r) (sym (le-ltb c 127 l))
 
 one_by : (x y : Bool) (c : ℕ) (r : Reader) → y ≡ false
-    → (if x then heard (Byte c) r else (if y then told (pending_with (One c) r) [] 0 else stray c r)) ≡ heard (if x then Byte c else Wide c) r
+    → (if x then heard (Byte c) r else (if y then emitted (pending_with (One c) r) [] 0 else stray c r)) ≡ heard (if x then Byte c else Wide c) r
 one_by true y c r p = refl
 one_by false true c r p = absurd (let no : true ≡ false = p in cc)
 one_by false false c r p = refl
@@ -96,10 +96,10 @@ two c r low high cooked none =
     silent a r s (b ∷ []) (lead a r (omega arith) (omega arith) cooked none)
     ∙ last b s (heard (coming_of c) r)
     (cooked_read b s cooked
-    ∙ ap (λ (x : Bool). if x then (if nat_lt a 224 then whole ((a % 32) * 64 + low_six b) s else told (pending_with (Two a b) s) [] 0) else apart b s)
+    ∙ ap (λ (x : Bool). if x then (if nat_lt a 224 then whole ((a % 32) * 64 + low_six b) s else emitted (pending_with (Two a b) s) [] 0) else apart b s)
     (second a b (omega arith) (omega arith) (λ e. absurd (omega (arith, e))) (λ e. absurd (omega (arith, e))) (λ e. absurd (omega (arith, e))) (λ e. absurd (omega (arith, e))))
-    ∙ ap (λ (x : Bool). if x then whole ((a % 32) * 64 + low_six b) s else told (pending_with (Two a b) s) [] 0) (lt-ltb a 224 (omega arith))
-    ∙ met ((a % 32) * 64 + low_six b) c r none (two_code c low high) (omega (arith, low)))
+    ∙ ap (λ (x : Bool). if x then whole ((a % 32) * 64 + low_six b) s else emitted (pending_with (Two a b) s) [] 0) (lt-ltb a 224 (omega arith))
+    ∙ offered ((a % 32) * 64 + low_six b) c r none (two_code c low high) (omega (arith, low)))
 
 three_code : (c : ℕ) → 2048 ≤ c → c < 65536 → ((224 + c / 4096) % 16) * 4096 + ((128 + (c / 64) % 64) % 64) * 64 + (128 + c % 64) % 64 ≡ c
 three_code c low high = omega arith
@@ -116,15 +116,15 @@ three c r low high is cooked none =
     silent a r s (b ∷ d ∷ []) (lead a r (omega arith) (omega arith) cooked none)
     ∙ silent b s u (d ∷ [])
     (cooked_read b s cooked
-    ∙ ap (λ (x : Bool). if x then (if nat_lt a 224 then whole ((a % 32) * 64 + low_six b) s else told (pending_with (Two a b) s) [] 0) else apart b s)
+    ∙ ap (λ (x : Bool). if x then (if nat_lt a 224 then whole ((a % 32) * 64 + low_six b) s else emitted (pending_with (Two a b) s) [] 0) else apart b s)
     (second a b (omega arith) (omega arith) (λ e. omega (arith, e)) cut (λ e. absurd (omega (arith, e))) (λ e. absurd (omega (arith, e))))
-    ∙ ap (λ (x : Bool). if x then whole ((a % 32) * 64 + low_six b) s else told (pending_with (Two a b) s) [] 0) (le-ltb a 224 (omega arith)))
+    ∙ ap (λ (x : Bool). if x then whole ((a % 32) * 64 + low_six b) s else emitted (pending_with (Two a b) s) [] 0) (le-ltb a 224 (omega arith)))
     ∙ last d u (heard (coming_of c) r)
     (cooked_read d u cooked
-    ∙ ap (λ (x : Bool). if x then (if nat_lt a 240 then whole ((a % 16) * 4096 + low_six b * 64 + low_six d) u else told (pending_with (Three a b d) u) [] 0) else apart d u)
+    ∙ ap (λ (x : Bool). if x then (if nat_lt a 240 then whole ((a % 16) * 4096 + low_six b * 64 + low_six d) u else emitted (pending_with (Three a b d) u) [] 0) else apart d u)
     (tail d (omega arith) (omega arith))
-    ∙ ap (λ (x : Bool). if x then whole ((a % 16) * 4096 + low_six b * 64 + low_six d) u else told (pending_with (Three a b d) u) [] 0) (lt-ltb a 240 (omega arith))
-    ∙ met ((a % 16) * 4096 + low_six b * 64 + low_six d) c r none (three_code c low high) (omega (arith, low)))
+    ∙ ap (λ (x : Bool). if x then whole ((a % 16) * 4096 + low_six b * 64 + low_six d) u else emitted (pending_with (Three a b d) u) [] 0) (lt-ltb a 240 (omega arith))
+    ∙ offered ((a % 16) * 4096 + low_six b * 64 + low_six d) c r none (three_code c low high) (omega (arith, low)))
 
 four_code : (c : ℕ) → 65536 ≤ c → c < 1114112
     → ((240 + c / 262144) % 8) * 262144 + ((128 + (c / 4096) % 64) % 64) * 4096 + ((128 + (c / 64) % 64) % 64) * 64 + (128 + c % 64) % 64 ≡ c
@@ -144,18 +144,18 @@ four c r low high cooked none =
     silent a r s (b ∷ d ∷ f ∷ []) (lead a r (omega arith) (omega arith) cooked none)
     ∙ silent b s u (d ∷ f ∷ [])
     (cooked_read b s cooked
-    ∙ ap (λ (x : Bool). if x then (if nat_lt a 224 then whole ((a % 32) * 64 + low_six b) s else told (pending_with (Two a b) s) [] 0) else apart b s)
+    ∙ ap (λ (x : Bool). if x then (if nat_lt a 224 then whole ((a % 32) * 64 + low_six b) s else emitted (pending_with (Two a b) s) [] 0) else apart b s)
     (second a b (omega arith) (omega arith) (λ e. absurd (omega (arith, e))) (λ e. absurd (omega (arith, e))) (λ e. omega (arith, e)) (λ e. omega (arith, e)))
-    ∙ ap (λ (x : Bool). if x then whole ((a % 32) * 64 + low_six b) s else told (pending_with (Two a b) s) [] 0) (le-ltb a 224 (omega arith)))
+    ∙ ap (λ (x : Bool). if x then whole ((a % 32) * 64 + low_six b) s else emitted (pending_with (Two a b) s) [] 0) (le-ltb a 224 (omega arith)))
     ∙ silent d u v (f ∷ [])
     (cooked_read d u cooked
-    ∙ ap (λ (x : Bool). if x then (if nat_lt a 240 then whole ((a % 16) * 4096 + low_six b * 64 + low_six d) u else told (pending_with (Three a b d) u) [] 0) else apart d u)
+    ∙ ap (λ (x : Bool). if x then (if nat_lt a 240 then whole ((a % 16) * 4096 + low_six b * 64 + low_six d) u else emitted (pending_with (Three a b d) u) [] 0) else apart d u)
     (tail d (omega arith) (omega arith))
-    ∙ ap (λ (x : Bool). if x then whole ((a % 16) * 4096 + low_six b * 64 + low_six d) u else told (pending_with (Three a b d) u) [] 0) (le-ltb a 240 (omega arith)))
+    ∙ ap (λ (x : Bool). if x then whole ((a % 16) * 4096 + low_six b * 64 + low_six d) u else emitted (pending_with (Three a b d) u) [] 0) (le-ltb a 240 (omega arith)))
     ∙ last f v (heard (coming_of c) r)
     (cooked_read f v cooked
     ∙ ap (λ (x : Bool). if x then whole whole_code v else apart f v) (tail f (omega arith) (omega arith))
-    ∙ met whole_code c r none (four_code c low high) (omega (arith, low)))
+    ∙ offered whole_code c r none (four_code c low high) (omega (arith, low)))
 
 -- ---- a character
 
@@ -178,8 +178,8 @@ cooked_character c r is cooked none = heard_by (nat_lt c 128) (nat_lt c 2048) (n
 
 -- ---- in comments and ignored lines nothing becomes pending
 
-raw_read : (b : ℕ) (r : Reader) → is_raw r.half.line ≡ true → read b r ≡ told (with_half (passing b r.half) r) (sent r.table b ∷ []) 1
-raw_read b r raw = ap (λ (x : Bool). if x then told (with_half (passing b r.half) r) (sent r.table b ∷ []) 1 else heard_byte b r) raw
+raw_read : (b : ℕ) (r : Reader) → is_raw r.half.line ≡ true → read b r ≡ emitted (with_half (passing b r.half) r) (sent r.table b ∷ []) 1
+raw_read b r raw = ap (λ (x : Bool). if x then emitted (with_half (passing b r.half) r) (sent r.table b ∷ []) 1 else heard_byte b r) raw
 
 no_newline : (b : ℕ) → 128 ≤ b → (b == code "\n") ≡ false
 no_newline b l = grind (arith, nat_tests)
@@ -191,7 +191,7 @@ either_raw false d e = refl
 raw_stays : (line : Line) (b : ℕ) → is_raw line ≡ true → 128 ≤ b → is_raw (line_passed line b) ≡ true
 raw_stays lines.Comment b p l = ap (λ (x : Bool). is_raw (if x then lines.Start else lines.Comment)) (no_newline b l)
 raw_stays (lines.Ignored d) b p l =
-    ap (λ (x : Bool). is_raw (if x then behind_ignored d else (if b == code "." then lines.Ignored (one_dot_more d) else lines.Ignored (no_dot d)))) (no_newline b l)
+    ap (λ (x : Bool). is_raw (if x then after_ignored d else (if b == code "." then lines.Ignored (one_dot_more d) else lines.Ignored (no_dot d)))) (no_newline b l)
     ∙ either_raw (b == code ".") (one_dot_more d) (no_dot d)
 raw_stays line b p l = absurd (let no : false ≡ true = p in cc)
 
@@ -203,7 +203,7 @@ raw_pending : (bs : List ℕ) (r : Reader) → is_raw r.half.line ≡ true → h
 unfolding high
 raw_pending [] r raw h = refl
 raw_pending (b ∷ bs) r raw h =
-    ap (λ (t : Told). (then_told t (λ s. fed s bs)).reader.pending) (raw_read b r raw)
+    ap (λ (t : Emitted). (then_emitted t (λ s. fed s bs)).reader.pending) (raw_read b r raw)
     ∙ raw_pending bs (with_half (passing b r.half) r) (raw_stays r.half.line b raw h.0) h.1
 
 raw_by : (x y z : Bool) (c : ℕ) (r : Reader) → is_raw r.half.line ≡ true
@@ -211,7 +211,7 @@ raw_by : (x y z : Bool) (c : ℕ) (r : Reader) → is_raw r.half.line ≡ true
     (if z then (224 + c / 4096) ∷ (128 + (c / 64) % 64) ∷ (128 + c % 64) ∷ [] else
     (240 + c / 262144) ∷ (128 + (c / 4096) % 64) ∷ (128 + (c / 64) % 64) ∷ (128 + c % 64) ∷ [])))).reader.pending ≡ r.pending
 unfolding high
-raw_by true y z c r raw = ap (λ (t : Told). (then_told t (λ s. told s [] 0)).reader.pending) (raw_read c r raw)
+raw_by true y z c r raw = ap (λ (t : Emitted). (then_emitted t (λ s. emitted s [] 0)).reader.pending) (raw_read c r raw)
 raw_by false true z c r raw = raw_pending ((192 + c / 64) ∷ (128 + c % 64) ∷ []) r raw (omega arith, (omega arith, tt))
 raw_by false false true c r raw =
     raw_pending ((224 + c / 4096) ∷ (128 + (c / 64) % 64) ∷ (128 + c % 64) ∷ []) r raw (omega arith, (omega arith, (omega arith, tt)))
@@ -238,5 +238,5 @@ fed-characters [] r is none = refl
 fed-characters (c ∷ cs) r is none =
     let t = read_character c r in
     fed-append r (encode_utf8 c) (encode_utf8_all cs)
-    ∙ ap (λ (u : Told). then_told u (λ s. fed s (encode_utf8_all cs))) (character_by (is_raw r.half.line) c r refl (and-first (scalar c) (scalars cs) is) none)
-    ∙ ap (behind t.bytes t.steps) (fed-characters cs t.reader (and-second (scalar c) (scalars cs) is) (pending_by (is_raw r.half.line) c r refl ∙ none))
+    ∙ ap (λ (u : Emitted). then_emitted u (λ s. fed s (encode_utf8_all cs))) (character_by (is_raw r.half.line) c r refl (and-first (scalar c) (scalars cs) is) none)
+    ∙ ap (preceded t.bytes t.steps) (fed-characters cs t.reader (and-second (scalar c) (scalars cs) is) (pending_by (is_raw r.half.line) c r refl ∙ none))

@@ -14,7 +14,7 @@ use Rattle.preconv_converter.specs.Glyphs.{is_pair, is_native, pair_code}
 use Rattle.preconv_converter.specs.Named.{is_translation}
 use Rattle.preconv_converter.specs.Likeness.{likeness}
 use Rattle.preconv_converter.specs.Saying.{all_sent}
-use Rattle.preconv_converter.specs.Meeting.{meet}
+use Rattle.preconv_converter.specs.Offering.{offer}
 use Rattle.preconv_converter.specs.Pieces.{Named}
 use Rattle.preconv_converter.specs.WrittenLines.{is_text, is_same, names, Glyph, is_sign}
 use Rattle.preconv_converter.proofs.AtOnce.{placed_as}
@@ -50,23 +50,23 @@ glyph_is a b c p =
       code = same_code (pair_code a b) c (and-second (own && dash) (is_same (pair_code a b) c) name);
     }
 
-one_met : (l : Line) (a : ℕ) (h : Half) → IsText a → meet (comings.Byte a) (pair_half l h) ≡ taken says.Nothing (one_half l a h)
-one_met l a h is = rw is.newline refl
+one_offered : (l : Line) (a : ℕ) (h : Half) → IsText a → offer (comings.Byte a) (pair_half l h) ≡ taken says.Nothing (one_half l a h)
+one_offered l a h is = rw is.newline refl
 
 placed_half : (x : Bool) (m : Mark) (l : Line) (a b : ℕ) (h : Half) → text_of (without_escape (placed_as x m (spelling b (keeping b (one_half l a h))))) ≡ open_half (with_text l) (record (placed_as x m h) { spelled = [] })
 placed_half true m l a b h = refl
 placed_half false m l a b h = refl
 
-glyph_met : (l : Line) (a b c : ℕ) (h : Half) → IsGlyph a b c → is_translation l ≡ false → (is_space c && not (text_at l)) ≡ false
-    → meet (comings.Byte b) (one_half l a h) ≡ taken (says.Character c) (text_of (without_escape (placed (wide_mark c) (spelling b (keeping b (one_half l a h))))))
-glyph_met l a b c h is line space = rw (is.native, is.dash, line, is.second.newline, no_both (is_pair (code "i") (code "s") (a ∷ b ∷ [])), is.code, space) refl
+glyph_offered : (l : Line) (a b c : ℕ) (h : Half) → IsGlyph a b c → is_translation l ≡ false → (is_space c && not (text_at l)) ≡ false
+    → offer (comings.Byte b) (one_half l a h) ≡ taken (says.Character c) (text_of (without_escape (placed (wide_mark c) (spelling b (keeping b (one_half l a h))))))
+glyph_offered l a b c h is line space = rw (is.native, is.dash, line, is.second.newline, no_both (is_pair (code "i") (code "s") (a ∷ b ∷ [])), is.code, space) refl
 
 pub glyph_reads : (P : Spot → Bool) (t : Target) (x : Where) (h : Half) (a b c : ℕ) (next : Half → Spot) → ((k : Half) → P (next k) ≡ true) → ((k : Half) → half_of (next k) ≡ open_half (with_text (line_of_where x)) k) → ((k : Half) → held (next k) ≡ [])
     → IsGlyph a b c → is_translation (line_of_where x) ≡ false → (is_space c && not (text_at (line_of_where x))) ≡ false → Reads P t (Pairs x h) (a ∷ b ∷ [])
 glyph_reads P t x h a b c next there half none is line space =
     let l = line_of_where x in
     let k : Half = record (placed (wide_mark c) h) { spelled = [] } in
-    reads_exact P t (Pairs x h) (Ones x a h) (a ∷ []) (b ∷ []) 1 (named t (Pairs x h) (Ones x a h) a is.first.ascii (one_met l a h is.first)) refl
+    reads_exact P t (Pairs x h) (Ones x a h) (a ∷ []) (b ∷ []) 1 (named t (Pairs x h) (Ones x a h) a is.first.ascii (one_offered l a h is.first)) refl
     (reads_byte P P t (Ones x a h) b [] is.second.ascii
     (hears_taken P 5 t (Ones x a h) b
     (record {
@@ -74,7 +74,7 @@ glyph_reads P t x h a b c next there half none is line space =
       there = there k;
       said = says.Character c;
       pieces = Named a b c ∷ [];
-      met = glyph_met l a b c h is line space ∙ ap (taken (says.Character c)) (placed_half h.manual (wide_mark c) l a b h ∙ sym (half k));
+      offered = glyph_offered l a b c h is line space ∙ ap (taken (says.Character c)) (placed_half h.manual (wide_mark c) l a b h ∙ sym (half k));
       out = sym (append-nil (all_sent t (likeness t c)));
       all = ap (λ (xs : List ℕ). code "\\" ∷ code "(" ∷ a ∷ b ∷ xs) (sym (none k));
     }))

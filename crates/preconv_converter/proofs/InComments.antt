@@ -8,9 +8,9 @@ use Rattle.preconv_converter.specs.declared.half.Line.{Line}
 use Rattle.preconv_converter.specs.declared.half.Line.TheVariants as lines
 use Rattle.preconv_converter.specs.declared.reader.Reader.{Reader}
 use Rattle.preconv_converter.specs.Lines.{passing, line_passed}
-use Rattle.preconv_converter.specs.Meeting.{is_raw}
+use Rattle.preconv_converter.specs.Offering.{is_raw}
 use Rattle.preconv_converter.specs.Saying.{sent}
-use Rattle.preconv_converter.specs.Reading.{told, with_half, read, heard_byte}
+use Rattle.preconv_converter.specs.Reading.{emitted, with_half, read, heard_byte}
 use Rattle.preconv_converter.specs.Passing.{Passes}
 use Rattle.preconv_converter.specs.Runs.{goes_on_comment, comment_at, comment_len}
 use Rattle.preconv_converter.proofs.Plain.{and-first, and-second, is_not, Passes-more}
@@ -25,13 +25,13 @@ line_stays b h line p =
 half_stays : (b : ℕ) (h : Half) → h.line ≡ lines.Comment → (b == code "\n") ≡ false → passing b h ≡ h
 half_stays b h line p = ap (λ (l : Line). record h { line = l }) (line_stays b h line p)
 
-comment_step : (b : ℕ) (r : Reader) → r.half.line ≡ lines.Comment → goes_on_comment b ≡ true → read b r ≡ told r (b ∷ []) 1
+comment_step : (b : ℕ) (r : Reader) → r.half.line ≡ lines.Comment → goes_on_comment b ≡ true → read b r ≡ emitted r (b ∷ []) 1
 comment_step b r line p =
     let ascii = and-first (nat_lt b 127) (not (b == code "\n")) p in
     let inside : (b == code "\n") ≡ false = is_not (b == code "\n") (and-second (nat_lt b 127) (not (b == code "\n")) p) in
-    ap (λ (x : Bool). if x then told (with_half (passing b r.half) r) (sent r.table b ∷ []) 1 else heard_byte b r) (ap is_raw line)
-    ∙ ap (λ (h : Half). told (with_half h r) (sent r.table b ∷ []) 1) (half_stays b r.half line inside)
-    ∙ ap (λ (c : ℕ). told r (c ∷ []) 1) (sent_is r.table b (ascii-goes r.table b ascii))
+    ap (λ (x : Bool). if x then emitted (with_half (passing b r.half) r) (sent r.table b ∷ []) 1 else heard_byte b r) (ap is_raw line)
+    ∙ ap (λ (h : Half). emitted (with_half h r) (sent r.table b ∷ []) 1) (half_stays b r.half line inside)
+    ∙ ap (λ (c : ℕ). emitted r (c ∷ []) 1) (sent_is r.table b (ascii-goes r.table b ascii))
 
 comment_passes : (n : ℕ) (bs : List ℕ) (r : Reader) → r.half.line ≡ lines.Comment
     → ((i : ℕ) → i < n → goes_on_comment (get_or bs i 0) ≡ true) → n ≤ length bs → Passes n bs r r

@@ -18,13 +18,13 @@ use Rattle.preconv_converter.specs.declared.words.Fonts.{Fonts}
 use Rattle.preconv_converter.specs.declared.words.Fonts.TheVariants as fonts
 use Rattle.preconv_converter.specs.Words.{first_words}
 use Rattle.preconv_converter.specs.Half.{taken, left}
-use Rattle.preconv_converter.specs.Hyphens.{mark_of, placed, saying, in_text as text_met, line_behind}
+use Rattle.preconv_converter.specs.Hyphens.{mark_of, placed, saying, in_text as text_offered, line_after}
 use Rattle.preconv_converter.specs.Saying.{all_sent}
 use Rattle.preconv_converter.specs.Beginnings.{opened, said_name}
 use Rattle.preconv_converter.specs.Conditions.{is_gap}
-use Rattle.preconv_converter.specs.Lines.{is_control, ends_name, control as control_met, naming, named_line, follows_tag, begins_apart, breaking, at_start, opening}
-use Rattle.preconv_converter.specs.Meeting.{meet, beginning}
-use Rattle.preconv_converter.specs.Reading.{Told, told, behind, then_told, fed, finished, first_reader}
+use Rattle.preconv_converter.specs.Lines.{is_control, ends_name, control as control_offered, naming, named_line, follows_tag, begins_apart, breaking, at_start, opening}
+use Rattle.preconv_converter.specs.Offering.{offer, beginning}
+use Rattle.preconv_converter.specs.Reading.{Emitted, emitted, preceded, then_emitted, fed, finished, first_reader}
 use Rattle.preconv_converter.specs.Pieces.{Piece, Same, all_were, all_become}
 use Rattle.preconv_converter.specs.WrittenLines.{is_sign, all_are, begins_text, is_text, each, is_letter, passes, is_name, begins_blank, is_word, are_words, written_word, written_words, takes_words, is_line, are_lines, written_line, written_lines}
 use Rattle.preconv_converter.specs.WordLaws.{LinesGoOut, PagesGoOut}
@@ -68,8 +68,8 @@ control_hears n t b h e =
     hears_taken in_control n t (Starts h) b
     (same_takes in_control t b (Controls (placed (mark_of b) h)) _ refl is.ascii
     (ap (λ (x : Bool). if x && true then beginning (open_half lines.Start h) else at_start b (open_half lines.Start h)) is.backslash
-    ∙ ap (λ (x : Bool). if x then control_met false b (open_half lines.Start h) else if follows_tag h && begins_apart b then breaking b (open_half lines.Start h) else if b == code "\n" then saying b lines.Start (open_half lines.Start h) else text_met b (open_half lines.Start h)) e
-    ∙ ap (λ (x : Bool). taken (says.Byte b) (record (if x then line_behind k else placed (mark_of b) k) { line = lines.Control })) is.newline
+    ∙ ap (λ (x : Bool). if x then control_offered false b (open_half lines.Start h) else if follows_tag h && begins_apart b then breaking b (open_half lines.Start h) else if b == code "\n" then saying b lines.Start (open_half lines.Start h) else text_offered b (open_half lines.Start h)) e
+    ∙ ap (λ (x : Bool). taken (says.Byte b) (record (if x then line_after k else placed (mark_of b) k) { line = lines.Control })) is.newline
     ∙ ap (taken (says.Byte b)) (control_by h.manual (mark_of b) h)) refl)
 
 -- ---- a name
@@ -87,14 +87,14 @@ letter_is b p =
     no_gap : (b : ℕ) → ends_name b ≡ false → is_gap b ≡ false
     no_gap b e = grind (arith, nat_tests)
 
-first_met : (b : ℕ) (h : Half) → IsLetter b → (x : Bool) → ((b == code ".") && h.defining) ≡ x → meet (comings.Byte b) (name_half lines.Control [] h) ≡ taken says.Nothing (name_half lines.Name (b ∷ []) h)
-first_met b h is true e =
+first_offered : (b : ℕ) (h : Half) → IsLetter b → (x : Bool) → ((b == code ".") && h.defining) ≡ x → offer (comings.Byte b) (name_half lines.Control [] h) ≡ taken says.Nothing (name_half lines.Name (b ∷ []) h)
+first_offered b h is true e =
     let same : b ≡ code "." = same_byte b (code ".") (and-first (b == code ".") h.defining e) in
     rw (is.text.backslash, e, same) refl
-first_met b h is false e = rw (is.goes_on, is.text.backslash, e, is.gap) refl
+first_offered b h is false e = rw (is.goes_on, is.text.backslash, e, is.gap) refl
 
-next_met : (b : ℕ) (name : List ℕ) (h : Half) → IsLetter b → is_full name ≡ false → meet (comings.Byte b) (name_half lines.Name name h) ≡ taken says.Nothing (name_half lines.Name (name ++ b ∷ []) h)
-next_met b name h is room = rw (is.goes_on, is.text.backslash, room) refl
+next_offered : (b : ℕ) (name : List ℕ) (h : Half) → IsLetter b → is_full name ≡ false → offer (comings.Byte b) (name_half lines.Name name h) ≡ taken says.Nothing (name_half lines.Name (name ++ b ∷ []) h)
+next_offered b name h is room = rw (is.goes_on, is.text.backslash, room) refl
 
 no_full : (name bs : List ℕ) → length name + suc (length bs) < 32 → is_full name ≡ false
 no_full name bs l = grind (arith, nat_tests)
@@ -105,16 +105,16 @@ less_room name bs b l = let e = length-append name (b ∷ []) in omega (arith, e
 add_one : (n : ℕ) → 1 + n ≡ suc n
 add_one n = omega arith
 
-name_read : (t : Target) (bs : List ℕ) → each is_letter bs ≡ true → (name : List ℕ) (h : Half) → length name + length bs < 32 → fed (at t (Names name h)) bs ≡ told (at t (Names (name ++ bs) h)) [] (length bs)
-name_read t [] all name h l = ap (λ (xs : List ℕ). told (at t (Names xs h)) [] 0) (sym (append-nil name))
+name_read : (t : Target) (bs : List ℕ) → each is_letter bs ≡ true → (name : List ℕ) (h : Half) → length name + length bs < 32 → fed (at t (Names name h)) bs ≡ emitted (at t (Names (name ++ bs) h)) [] (length bs)
+name_read t [] all name h l = ap (λ (xs : List ℕ). emitted (at t (Names xs h)) [] 0) (sym (append-nil name))
 name_read t (b ∷ bs) all name h l =
     let is = letter_is b (and-first (is_letter b) (each is_letter bs) all) in
-    let one = named t (Names name h) (Names (name ++ b ∷ []) h) b is.text.ascii (next_met b name h is (no_full name bs l)) in
+    let one = named t (Names name h) (Names (name ++ b ∷ []) h) b is.text.ascii (next_offered b name h is (no_full name bs l)) in
     fed-append (at t (Names name h)) (b ∷ []) bs
-    ∙ ap (λ (u : Told). then_told u (λ s. fed s bs)) one
-    ∙ ap (behind [] 1) (name_read t bs (and-second (is_letter b) (each is_letter bs) all) (name ++ b ∷ []) h (less_room name bs b l))
-    ∙ ap (λ (xs : List ℕ). told (at t (Names xs h)) [] (1 + length bs)) (append_assoc name (b ∷ []) bs)
-    ∙ ap (λ (n : ℕ). told (at t (Names (name ++ b ∷ bs) h)) [] n) (add_one (length bs))
+    ∙ ap (λ (u : Emitted). then_emitted u (λ s. fed s bs)) one
+    ∙ ap (preceded [] 1) (name_read t bs (and-second (is_letter b) (each is_letter bs) all) (name ++ b ∷ []) h (less_room name bs b l))
+    ∙ ap (λ (xs : List ℕ). emitted (at t (Names xs h)) [] (1 + length bs)) (append_assoc name (b ∷ []) bs)
+    ∙ ap (λ (n : ℕ). emitted (at t (Names (name ++ b ∷ bs) h)) [] n) (add_one (length bs))
 
 -- ---- what goes out of a name
 
@@ -155,27 +155,27 @@ opened_left opens.Stored c name h p = refl
 opened_left opens.Definition c name h p = short_name (length name == 3) name _ p
 opened_left o c name h p = absurd (let no : false ≡ true = p in cc)
 
-ended_met : (c : ℕ) (name : List ℕ) (h : Half) → ends_name c ≡ true → (c == code "\\") ≡ false
-    → meet (comings.Byte c) (name_half lines.Name name h) ≡ left (said_name (opened name) name c) (opened_half (opened name) c name h)
+ended_offered : (c : ℕ) (name : List ℕ) (h : Half) → ends_name c ≡ true → (c == code "\\") ≡ false
+    → offer (comings.Byte c) (name_half lines.Name name h) ≡ left (said_name (opened name) name c) (opened_half (opened name) c name h)
 unfolding opened_half
-ended_met c name h ends back =
+ended_offered c name h ends back =
     ap (λ (x : Bool). if x && false then beginning (name_half lines.Name name h) else (if ends_name c || is_full name then named_line c (name_half lines.Name name h) else naming (name ++ c ∷ []) lines.Name (name_half lines.Name name h))) back
     ∙ ap (λ (x : Bool). if x || is_full name then named_line c (name_half lines.Name name h) else naming (name ++ c ∷ []) lines.Name (name_half lines.Name name h)) ends
 
-rest_met_at : (x : Bool) (b : ℕ) (h : Half) → IsText b → meet (comings.Byte b) (half_of (stores x h)) ≡ saying b (half_of (stores x h)).line (half_of (stores x h))
+rest_offered_at : (x : Bool) (b : ℕ) (h : Half) → IsText b → offer (comings.Byte b) (half_of (stores x h)) ≡ saying b (half_of (stores x h)).line (half_of (stores x h))
 unfolding stores
-rest_met_at true b h is = rw (is.return, is.newline, is.backslash) refl
-rest_met_at false b h is = rw (is.return, is.newline, is.backslash) refl
+rest_offered_at true b h is = rw (is.return, is.newline, is.backslash) refl
+rest_offered_at false b h is = rw (is.return, is.newline, is.backslash) refl
 
 rest_byte_at : (x : Bool) (n : ℕ) (t : Target) (b : ℕ) (h : Half) → IsText b → Hears in_rest (suc n) t (stores x h) b
 unfolding stores
-rest_byte_at true n t b h is = hears_taken in_rest n t (Stores h) b (same_takes in_rest t b (Stores (placed (mark_of b) h)) _ refl is.ascii (rest_met_at true b h is ∙ saying_is b lines.Stored lines.Stored h is.newline) refl)
-rest_byte_at false n t b h is = hears_taken in_rest n t (Rests h) b (same_takes in_rest t b (Rests (placed (mark_of b) h)) _ refl is.ascii (rest_met_at false b h is ∙ saying_is b lines.Request lines.Request h is.newline) refl)
+rest_byte_at true n t b h is = hears_taken in_rest n t (Stores h) b (same_takes in_rest t b (Stores (placed (mark_of b) h)) _ refl is.ascii (rest_offered_at true b h is ∙ saying_is b lines.Stored lines.Stored h is.newline) refl)
+rest_byte_at false n t b h is = hears_taken in_rest n t (Rests h) b (same_takes in_rest t b (Rests (placed (mark_of b) h)) _ refl is.ascii (rest_offered_at false b h is ∙ saying_is b lines.Request lines.Request h is.newline) refl)
 
 rest_newline_at : (x : Bool) (n : ℕ) (t : Target) (h : Half) → Hears begins (suc n) t (stores x h) (code "\n")
 unfolding stores
-rest_newline_at true n t h = hears_taken begins n t (Stores h) (code "\n") (same_takes begins t (code "\n") (Starts (line_behind h)) _ refl refl refl refl)
-rest_newline_at false n t h = hears_taken begins n t (Rests h) (code "\n") (same_takes begins t (code "\n") (Starts (line_behind h)) _ refl refl refl refl)
+rest_newline_at true n t h = hears_taken begins n t (Stores h) (code "\n") (same_takes begins t (code "\n") (Starts (line_after h)) _ refl refl refl refl)
+rest_newline_at false n t h = hears_taken begins n t (Rests h) (code "\n") (same_takes begins t (code "\n") (Starts (line_after h)) _ refl refl refl refl)
 
 stores_none : (x : Bool) (h : Half) → held (stores x h) ≡ []
 unfolding stores
@@ -190,7 +190,7 @@ opened_hears P n t c name h ends back all known more =
     let x = is_stored o in
     let k = opened_half o c name h in
     hears_left P n t (Names name h) (stores x k) c (says.Kept name) (sames name)
-    (ended_met c name h ends back ∙ opened_left o c name h known) (letters_sent t name all ∙ sym (sames_become t name))
+    (ended_offered c name h ends back ∙ opened_left o c name h known) (letters_sent t name all ∙ sym (sames_become t name))
     (sym (ap (λ (xs : List ℕ). all_were (sames name) ++ xs) (stores_none x k) ∙ append-nil (all_were (sames name)) ∙ sames_were name)) (more x k)
 
 rest_byte : (t : Target) (b : ℕ) → IsText b → (p : Spot) → in_rest p ≡ true → Hears in_rest 6 t p b
@@ -241,7 +241,7 @@ words_opened P n t c name h ends back all known more =
     let o = opened name in
     let k = opened_half o c name h in
     hears_left P n t (Names name h) (Flows (Among places.Between (first_words (fonts_of o))) k) c (says.Kept name) (sames name)
-    (ended_met c name h ends back ∙ words_left o c name h known) (letters_sent t name all ∙ sym (sames_become t name))
+    (ended_offered c name h ends back ∙ words_left o c name h known) (letters_sent t name all ∙ sym (sames_become t name))
     (sym (append-nil (all_were (sames name)) ∙ sames_were name)) (more (first_words (fonts_of o)) k)
 
 name_words : (t : Target) (name : List ℕ) (ws : List written.Word) (h : Half) → each is_letter name ≡ true → takes_words (opened name) ≡ true → are_words ws ≡ true
@@ -258,13 +258,13 @@ name_words t name (w ∷ ws) h all known words =
 below_full : (n : ℕ) → nat_lt (suc n) 32 ≡ true → 1 + n < 32
 below_full n p = grind (arith, nat_tests)
 
-whole_name : (t : Target) (b : ℕ) (bs : List ℕ) (h : Half) → is_name (b ∷ bs) ≡ true → fed (at t (Controls h)) (b ∷ bs) ≡ told (at t (Names (b ∷ bs) h)) [] (1 + length bs)
+whole_name : (t : Target) (b : ℕ) (bs : List ℕ) (h : Half) → is_name (b ∷ bs) ≡ true → fed (at t (Controls h)) (b ∷ bs) ≡ emitted (at t (Names (b ∷ bs) h)) [] (1 + length bs)
 whole_name t b bs h p =
     let all = and-first (each is_letter (b ∷ bs)) (nat_lt (length (b ∷ bs)) 32) p in
     let is = letter_is b (and-first (is_letter b) (each is_letter bs) all) in
     fed-append (at t (Controls h)) (b ∷ []) bs
-    ∙ ap (λ (u : Told). then_told u (λ s. fed s bs)) (named t (Controls h) (Names (b ∷ []) h) b is.text.ascii (first_met b h is ((b == code ".") && h.defining) refl))
-    ∙ ap (behind [] 1) (name_read t bs (and-second (is_letter b) (each is_letter bs) all) (b ∷ []) h (below_full (length bs) (and-second (each is_letter (b ∷ bs)) (nat_lt (length (b ∷ bs)) 32) p)))
+    ∙ ap (λ (u : Emitted). then_emitted u (λ s. fed s bs)) (named t (Controls h) (Names (b ∷ []) h) b is.text.ascii (first_offered b h is ((b == code ".") && h.defining) refl))
+    ∙ ap (preceded [] 1) (name_read t bs (and-second (is_letter b) (each is_letter bs) all) (b ∷ []) h (below_full (length bs) (and-second (each is_letter (b ∷ bs)) (nat_lt (length (b ∷ bs)) 32) p)))
 
 control_line : (P : Spot → Bool) (t : Target) (b : ℕ) (bs : List ℕ) → is_control b ≡ true → ((h : Half) → Reads P t (Controls h) bs) → (p : Spot) → begins p ≡ true → Reads P t p (b ∷ bs)
 unfolding in_control
@@ -360,7 +360,7 @@ lines_go_out r ls all =
           ∙ ap (λ (xs : List ℕ). all_were k.pieces ++ xs) (left_were k.next k.there)
           ∙ sym (all_were-append k.pieces (last k.next));
       goes =
-          ap (λ (u : Told). u.bytes ++ finished u.reader) k.read
+          ap (λ (u : Emitted). u.bytes ++ finished u.reader) k.read
           ∙ ap (λ (xs : List ℕ). all_become t k.pieces ++ xs) (left_out t k.next k.there)
           ∙ sym (all_become-append t k.pieces (last k.next));
     }

@@ -19,13 +19,13 @@ use Rattle.preconv_converter.specs.Hyphens.{placed}
 use Rattle.preconv_converter.specs.Conditions.{is_gap}
 use Rattle.preconv_converter.specs.Escapes.{in_escape}
 use Rattle.preconv_converter.specs.Lines.{ends_name, naming, blanks_said, named_line, in_line, in_line_at}
-use Rattle.preconv_converter.specs.Meeting.{meet, plain_byte, beginning, is_raw}
-use Rattle.preconv_converter.specs.Reading.{Told, told, behind, then_told, with_half, read, fed}
-use Rattle.preconv_converter.specs.Runs.{goes_on_name, dotted_len, is_start, name_len, behind_name}
+use Rattle.preconv_converter.specs.Offering.{offer, plain_byte, beginning, is_raw}
+use Rattle.preconv_converter.specs.Reading.{Emitted, emitted, preceded, then_emitted, with_half, read, fed}
+use Rattle.preconv_converter.specs.Runs.{goes_on_name, dotted_len, is_start, name_len, after_name}
 use Rattle.preconv_converter.proofs.Plain.{and-first, and-second, is_not}
 use Rattle.preconv_converter.proofs.Reading.{fed-append}
 use Rattle.preconv_converter.proofs.AtOnce.{placed_as, placed_escape}
-use Rattle.preconv_converter.proofs.PlainEscapes.{meets, is_one}
+use Rattle.preconv_converter.proofs.PlainEscapes.{offers, is_one}
 
 -- ---- a byte of a name
 
@@ -51,17 +51,17 @@ dot_by : (m : Bool) (h : Half)
 dot_by true h = refl
 dot_by false h = refl
 
-dot_met : (h : Half) → is_plain h.escape ≡ true → h.line ≡ lines.Start → meet (comings.Byte (code ".")) h ≡ taken (says.Byte (code ".")) (after_dot h)
+dot_offered : (h : Half) → is_plain h.escape ≡ true → h.line ≡ lines.Start → offer (comings.Byte (code ".")) h ≡ taken (says.Byte (code ".")) (after_dot h)
 unfolding after_dot
-dot_met h plain start =
+dot_offered h plain start =
     ap (λ (x : Bool). if x then plain_byte (code ".") h else in_escape (code ".") h) plain
     ∙ ap (λ (l : Line). in_line_at l (code ".") h) start
     ∙ ap (taken (says.Byte (code "."))) (dot_by h.manual h)
 
-first_met : (b : ℕ) (h : Half) → is_plain h.escape ≡ true → goes_on_name b ≡ true → (b == code ".") ≡ false
-    → meet (comings.Byte b) (after_dot h) ≡ taken says.Nothing (behind_name (b ∷ []) h)
+first_offered : (b : ℕ) (h : Half) → is_plain h.escape ≡ true → goes_on_name b ≡ true → (b == code ".") ≡ false
+    → offer (comings.Byte b) (after_dot h) ≡ taken says.Nothing (after_name (b ∷ []) h)
 unfolding after_dot
-first_met b h plain goes other =
+first_offered b h plain goes other =
     let k = record (placed Stop h) { conditional = false; name = []; line = lines.Control } in
     ap (λ (x : Bool). if x then plain_byte b k else in_escape b k) (placed_escape Stop h ∙ plain)
     ∙ ap (λ (x : Bool). if x && false then beginning k else in_line b k) (no_backslash b goes)
@@ -76,10 +76,10 @@ first_met b h plain goes other =
 not_full : (name : List ℕ) → length name < capacity → is_full name ≡ false
 not_full name l = grind (arith, nat_tests)
 
-next_met : (b : ℕ) (name : List ℕ) (h : Half) → is_plain h.escape ≡ true → goes_on_name b ≡ true → length name < capacity
-    → meet (comings.Byte b) (behind_name name h) ≡ taken says.Nothing (behind_name (name ++ b ∷ []) h)
-next_met b name h plain goes few =
-    let k = behind_name name h in
+next_offered : (b : ℕ) (name : List ℕ) (h : Half) → is_plain h.escape ≡ true → goes_on_name b ≡ true → length name < capacity
+    → offer (comings.Byte b) (after_name name h) ≡ taken says.Nothing (after_name (name ++ b ∷ []) h)
+next_offered b name h plain goes few =
+    let k = after_name name h in
     ap (λ (x : Bool). if x then plain_byte b k else in_escape b k) (placed_escape Stop h ∙ plain)
     ∙ ap (λ (x : Bool). if x && false then beginning k else in_line b k) (no_backslash b goes)
     ∙ ap (λ (x : Bool). if x || is_full name then named_line b k else taken says.Nothing (record k { name = name ++ b ∷ [] })) (no_end b goes)
@@ -88,50 +88,50 @@ next_met b name h plain goes few =
 -- ---- the bytes come
 
 pub dot_read : (r : Reader) → r.pending ≡ Nothing → is_plain r.half.escape ≡ true → r.half.line ≡ lines.Start
-    → read (code ".") r ≡ told (with_half (after_dot r.half) r) (code "." ∷ []) 1
+    → read (code ".") r ≡ emitted (with_half (after_dot r.half) r) (code "." ∷ []) 1
 dot_read r none plain start =
-    meets (code ".") r (says.Byte (code ".")) (after_dot r.half) none (ap is_raw start) refl (dot_met r.half plain start)
+    offers (code ".") r (says.Byte (code ".")) (after_dot r.half) none (ap is_raw start) refl (dot_offered r.half plain start)
 
 first_read : (b : ℕ) (r : Reader) → r.pending ≡ Nothing → is_plain r.half.escape ≡ true → goes_on_name b ≡ true → (b == code ".") ≡ false
-    → read b (with_half (after_dot r.half) r) ≡ told (with_half (behind_name (b ∷ []) r.half) r) [] 1
+    → read b (with_half (after_dot r.half) r) ≡ emitted (with_half (after_name (b ∷ []) r.half) r) [] 1
 unfolding after_dot
 first_read b r none plain goes other =
-    meets b (with_half (after_dot r.half) r) says.Nothing (behind_name (b ∷ []) r.half) none refl (is_ascii b goes) (first_met b r.half plain goes other)
+    offers b (with_half (after_dot r.half) r) says.Nothing (after_name (b ∷ []) r.half) none refl (is_ascii b goes) (first_offered b r.half plain goes other)
 
 next_read : (b : ℕ) (name : List ℕ) (r : Reader) → r.pending ≡ Nothing → is_plain r.half.escape ≡ true → goes_on_name b ≡ true → length name < capacity
-    → read b (with_half (behind_name name r.half) r) ≡ told (with_half (behind_name (name ++ b ∷ []) r.half) r) [] 1
+    → read b (with_half (after_name name r.half) r) ≡ emitted (with_half (after_name (name ++ b ∷ []) r.half) r) [] 1
 next_read b name r none plain goes few =
-    meets b (with_half (behind_name name r.half) r) says.Nothing (behind_name (name ++ b ∷ []) r.half) none refl (is_ascii b goes) (next_met b name r.half plain goes few)
+    offers b (with_half (after_name name r.half) r) says.Nothing (after_name (name ++ b ∷ []) r.half) none refl (is_ascii b goes) (next_offered b name r.half plain goes few)
 
-fed_one : (b : ℕ) (s t : Reader) (bytes : List ℕ) → read b s ≡ told t bytes 1 → fed s (b ∷ []) ≡ told t (bytes ++ []) 1
-fed_one b s t bytes p = ap (λ (u : Told). then_told u (λ v. told v [] 0)) p
+fed_one : (b : ℕ) (s t : Reader) (bytes : List ℕ) → read b s ≡ emitted t bytes 1 → fed s (b ∷ []) ≡ emitted t (bytes ++ []) 1
+fed_one b s t bytes p = ap (λ (u : Emitted). then_emitted u (λ v. emitted v [] 0)) p
 
 -- the first n + 1 of these bytes
 names_fed : (n : ℕ) (bs : List ℕ) (r : Reader) → r.pending ≡ Nothing → is_plain r.half.escape ≡ true
     → ((i : ℕ) → i < n + 1 → goes_on_name (get_or bs i 0) ≡ true) → (get_or bs 0 0 == code ".") ≡ false → n < length bs → n < capacity
-    → fed (with_half (after_dot r.half) r) (take (n + 1) bs) ≡ told (with_half (behind_name (take (n + 1) bs) r.half) r) [] (n + 1)
+    → fed (with_half (after_dot r.half) r) (take (n + 1) bs) ≡ emitted (with_half (after_name (take (n + 1) bs) r.half) r) [] (n + 1)
 names_fed zero bs r none plain goes other within few =
     let b = get_or bs 0 0 in
-    let front : take (0 + 1) bs ≡ b ∷ [] = take_more bs 0 0 within in
-    let P : List ℕ → Type 0 = λ xs. fed (with_half (after_dot r.half) r) xs ≡ told (with_half (behind_name xs r.half) r) [] 1 in
-    let one : P (b ∷ []) = fed_one b (with_half (after_dot r.half) r) (with_half (behind_name (b ∷ []) r.half) r) []
+    let prefix : take (0 + 1) bs ≡ b ∷ [] = take_more bs 0 0 within in
+    let P : List ℕ → Type 0 = λ xs. fed (with_half (after_dot r.half) r) xs ≡ emitted (with_half (after_name xs r.half) r) [] 1 in
+    let one : P (b ∷ []) = fed_one b (with_half (after_dot r.half) r) (with_half (after_name (b ∷ []) r.half) r) []
     (first_read b r none plain (goes 0 (omega arith)) other) in
-    subst P (sym front) one
+    subst P (sym prefix) one
 names_fed (suc n) bs r none plain goes other within few =
     let b = get_or bs (suc n) 0 in
     let s = with_half (after_dot r.half) r in
     let back : n + 1 ≡ suc n = add-one n in
-    let Q : ℕ → Type 0 = λ k. fed s (take k bs) ≡ told (with_half (behind_name (take k bs) r.half) r) [] k in
+    let Q : ℕ → Type 0 = λ k. fed s (take k bs) ≡ emitted (with_half (after_name (take k bs) r.half) r) [] k in
     let before : Q (suc n) = subst Q back (names_fed n bs r none plain (λ i below. goes i (omega arith)) other (omega arith) (omega arith)) in
     let xs = take (suc n) bs in
-    let front : take (suc n + 1) bs ≡ xs ++ b ∷ [] = take_more bs (suc n) 0 within in
+    let prefix : take (suc n + 1) bs ≡ xs ++ b ∷ [] = take_more bs (suc n) 0 within in
     let short : length xs < capacity = omega (arith, length-take (suc n) bs) in
-    let one = fed_one b (with_half (behind_name xs r.half) r) (with_half (behind_name (xs ++ b ∷ []) r.half) r) []
+    let one = fed_one b (with_half (after_name xs r.half) r) (with_half (after_name (xs ++ b ∷ []) r.half) r) []
     (next_read b xs r none plain (goes (suc n) (omega arith)) short) in
-    let P : List ℕ → Type 0 = λ ys. fed s ys ≡ told (with_half (behind_name ys r.half) r) [] (suc n + 1) in
+    let P : List ℕ → Type 0 = λ ys. fed s ys ≡ emitted (with_half (after_name ys r.half) r) [] (suc n + 1) in
     let whole : P (xs ++ b ∷ []) =
-    fed-append s xs (b ∷ []) ∙ ap (λ (u : Told). then_told u (λ v. fed v (b ∷ []))) before ∙ ap (behind [] (suc n)) one in
-    subst P (sym front) whole
+    fed-append s xs (b ∷ []) ∙ ap (λ (u : Emitted). then_emitted u (λ v. fed v (b ∷ []))) before ∙ ap (preceded [] (suc n)) one in
+    subst P (sym prefix) whole
 
 -- ---- the dot, and the name
 
@@ -147,7 +147,7 @@ dotted_value false y k p q = absurd (let no : false ≡ true = p in cc)
 
 dotted_fed : (n : ℕ) (bs : List ℕ) (r : Reader) → r.pending ≡ Nothing → is_plain r.half.escape ≡ true → r.half.line ≡ lines.Start
     → n ≡ dotted_len bs → 0 < n
-    → fed r (take (n + 1) bs) ≡ told (with_half (behind_name (take n (drop 1 bs)) r.half) r) (code "." ∷ []) (n + 1)
+    → fed r (take (n + 1) bs) ≡ emitted (with_half (after_name (take n (drop 1 bs)) r.half) r) (code "." ∷ []) (n + 1)
 dotted_fed n [] r none plain start is some = absurd (omega arith)
 dotted_fed n (dot ∷ []) r none plain start is some = absurd (omega arith)
 dotted_fed n (dot ∷ first ∷ more) r none plain start is some =
@@ -161,15 +161,15 @@ dotted_fed n (dot ∷ first ∷ more) r none plain start is some =
     let within = prefix_len-le-length goes_on_name bs in
     let back : n - 1 + 1 ≡ n = omega arith in
     let s = with_half (after_dot r.half) r in
-    let Q : ℕ → Type 0 = λ m. fed s (take m bs) ≡ told (with_half (behind_name (take m bs) r.half) r) [] m in
+    let Q : ℕ → Type 0 = λ m. fed s (take m bs) ≡ emitted (with_half (after_name (take m bs) r.half) r) [] m in
     let name : Q n = subst Q back
     (names_fed (n - 1) bs r none plain (λ i below. prefix_len_passes goes_on_name bs i 0 (omega arith)) parts.1 (omega arith) (omega arith)) in
-    let R : ℕ → Type 0 = λ d. fed r (d ∷ take n bs) ≡ told (with_half (behind_name (take n bs) r.half) r) (code "." ∷ []) (1 + n) in
-    let whole : R (code ".") = ap (λ (t : Told). then_told t (λ v. fed v (take n bs))) (dot_read r none plain start) ∙ ap (behind (code "." ∷ []) 1) name in
+    let R : ℕ → Type 0 = λ d. fed r (d ∷ take n bs) ≡ emitted (with_half (after_name (take n bs) r.half) r) (code "." ∷ []) (1 + n) in
+    let whole : R (code ".") = ap (λ (t : Emitted). then_emitted t (λ v. fed v (take n bs))) (dot_read r none plain start) ∙ ap (preceded (code "." ∷ []) 1) name in
     let here : R dot = subst R (sym (is_one dot (code ".") parts.0)) whole in
     let cut : take (n + 1) (dot ∷ bs) ≡ dot ∷ take n bs = ap (λ (m : ℕ). take m (dot ∷ bs)) (add-one n) in
     let count : 1 + n ≡ n + 1 = omega arith in
-    ap (fed r) cut ∙ here ∙ ap (told (with_half (behind_name (take n bs) r.half) r) (code "." ∷ [])) count
+    ap (fed r) cut ∙ here ∙ ap (emitted (with_half (after_name (take n bs) r.half) r) (code "." ∷ [])) count
 
 pub start_is : (l : Line) → is_start l ≡ true → l ≡ lines.Start
 start_is lines.Start p = refl
@@ -186,7 +186,7 @@ both_value true false k p q = absurd (let no : false ≡ true = q in cc)
 both_value false y k p q = absurd (let no : false ≡ true = p in cc)
 
 pub name_fed : (n : ℕ) (bs : List ℕ) (r : Reader) → r.pending ≡ Nothing → n ≡ name_len bs r.half → 0 < n
-    → fed r (take (n + 1) bs) ≡ told (with_half (behind_name (take n (drop 1 bs)) r.half) r) (code "." ∷ []) (n + 1)
+    → fed r (take (n + 1) bs) ≡ emitted (with_half (after_name (take n (drop 1 bs)) r.half) r) (code "." ∷ []) (n + 1)
 name_fed n bs r none is some =
     let x = is_plain r.half.escape in
     let y = is_start r.half.line in

@@ -11,7 +11,7 @@ use Rattle.preconv_converter.specs.declared.half.Coming.TheVariants as comings
 use Rattle.preconv_converter.specs.declared.said.Said.{Said}
 use Rattle.preconv_converter.specs.declared.said.Said.TheVariants as says
 use Rattle.preconv_converter.specs.declared.words.Words.{Words}
-use Rattle.preconv_converter.specs.declared.words.Told.{Told as WordsTold}
+use Rattle.preconv_converter.specs.declared.words.Emitted.{Emitted as WordsEmitted}
 use Rattle.preconv_converter.specs.declared.words.Fonts.{Fonts}
 use Rattle.preconv_converter.specs.declared.words.Fonts.TheVariants.{One, Same, Turn, Tag}
 use Rattle.preconv_converter.specs.declared.words.Place.{Place}
@@ -21,18 +21,18 @@ use Rattle.preconv_converter.specs.declared.words.Class.TheVariants.{Space, Quot
 use Rattle.preconv_converter.specs.declared.reader.Reader.{Reader}
 use Rattle.preconv_converter.specs.declared.reader.Pending.{Pending}
 use Rattle.preconv_converter.specs.declared.reader.Pending.TheVariants as pendings
-use Rattle.preconv_converter.specs.Half.{Met, taken, left, is_plain, is_open, is_read}
+use Rattle.preconv_converter.specs.Half.{Offered, taken, left, is_plain, is_open, is_read}
 use Rattle.preconv_converter.specs.Translations.{translated}
-use Rattle.preconv_converter.specs.Hyphens.{mark_of, followed, gone_by, saying, hyphen, turns_hyphens, carriage_return, is_moved, moved, closes, newline_held, in_text, line_behind}
-use Rattle.preconv_converter.specs.Words.{goes_on_at, goes_on_with, goes_on_with_space, spaced_at, after_space, begins_word, is_ninth, class_of, words_at, blank_by, met_at}
+use Rattle.preconv_converter.specs.Hyphens.{mark_of, followed, gone_by, saying, hyphen, turns_hyphens, carriage_return, is_moved, moved, closes, newline_held, in_text, line_after}
+use Rattle.preconv_converter.specs.Words.{goes_on_at, goes_on_with, goes_on_with_space, spaced_at, after_space, begins_word, is_ninth, class_of, words_at, blank_by, offered_at}
 use Rattle.preconv_converter.specs.Words.{is_as_is as word_as_is, taken_as_is as word_taken}
 use Rattle.preconv_converter.specs.Saying.{bytes_of, sent}
 use Rattle.preconv_converter.specs.Escapes.{in_escape}
-use Rattle.preconv_converter.specs.Lines.{is_control, control, as_met, among_words, follows_tag, begins_apart, breaking, at_start, after_fonts, word_moved, in_words, in_rest, in_line_at, in_line, takes_escape, passing}
-use Rattle.preconv_converter.specs.Meeting.{meet, plain_byte, beginning, is_raw, may_pass, is_text_as_is, is_as_is_at, is_as_is, line_taken, taken_as_is}
-use Rattle.preconv_converter.specs.Reading.{Told, told, behind, then_told, heard, heard_in, with_half, pending_with, strays, fresh, heard_after, heard_byte, read, fed, is_lead, stray}
+use Rattle.preconv_converter.specs.Lines.{is_control, control, as_offered, among_words, follows_tag, begins_apart, breaking, at_start, after_fonts, word_moved, in_words, in_rest, in_line_at, in_line, takes_escape, passing}
+use Rattle.preconv_converter.specs.Offering.{offer, plain_byte, beginning, is_raw, may_pass, is_text_as_is, is_as_is_at, is_as_is, line_taken, taken_as_is}
+use Rattle.preconv_converter.specs.Reading.{Emitted, emitted, preceded, then_emitted, heard, heard_in, with_half, pending_with, strays, fresh, heard_after, heard_byte, read, fed, is_lead, stray}
 use Rattle.preconv_converter.specs.Passing.{Passes}
-use Rattle.preconv_converter.proofs.Reading.{behind-none, fed-append}
+use Rattle.preconv_converter.proofs.Reading.{preceded-none, fed-append}
 use Rattle.preconv_converter.proofs.Sent.{sent_is, ascii-goes}
 
 pub and-first : (x y : Bool) → (x && y) ≡ true → x ≡ true
@@ -63,18 +63,18 @@ pub stays : (b : ℕ) (h : Half) → (b == carriage_return) ≡ false → h.tran
 stays b h p q = not_moved_by (b == carriage_return) h.translating (not (translated b h.translations == 0)) p q
 
 -- a byte goes out as it is, and the line goes on so
-goes : ℕ → Line → Half → Met
+goes : ℕ → Line → Half → Offered
 goes b line h = taken (says.Byte b) (record (gone_by b h) { line = line })
 
-text_by : (x y z : Bool) (b : ℕ) (h : Half) (m n : Met) → y ≡ false → (not z || not x) ≡ true
+text_by : (x y z : Bool) (b : ℕ) (h : Half) (m n : Offered) → y ≡ false → (not z || not x) ≡ true
     → (if x then (if z then n else saying b lines.Start h) else (if y then m else saying b lines.Text h)) ≡ goes b (if x then lines.Start else lines.Text) h
 unfolding goes
 text_by true y true b h m n p q = absurd (let no : false ≡ true = q in cc)
 text_by true y false b h m n p q = refl
 text_by false y z b h m n p q = ap (λ (w : Bool). if w then m else saying b lines.Text h) p
 
-text_met : (b : ℕ) (h : Half) → is_moved b h ≡ false → is_text_as_is b h ≡ true → in_text b h ≡ goes b (if b == code "\n" then lines.Start else lines.Text) h
-text_met b h still p =
+text_offered : (b : ℕ) (h : Half) → is_moved b h ≡ false → is_text_as_is b h ≡ true → in_text b h ≡ goes b (if b == code "\n" then lines.Start else lines.Text) h
+text_offered b h still p =
     let whole = not (turns_hyphens h) || not (b == code "-") in
     let free = not (closes h) || not (b == code "\n") in
     ap (λ (x : Bool). if x then moved b h else
@@ -83,7 +83,7 @@ text_met b h still p =
     ∙ text_by (b == code "\n") (turns_hyphens h && (b == code "-")) (closes h) b h (hyphen lines.Text h) (newline_held h)
     (not_both (turns_hyphens h) (b == code "-") (and-first whole free p)) (and-second whole free p)
 
-start_by : (x y z : Bool) (b : ℕ) (h : Half) (m n : Met) → y ≡ false → z ≡ false → in_text b h ≡ goes b (if x then lines.Start else lines.Text) h
+start_by : (x y z : Bool) (b : ℕ) (h : Half) (m n : Offered) → y ≡ false → z ≡ false → in_text b h ≡ goes b (if x then lines.Start else lines.Text) h
     → (if y then m else (if z then n else (if x then saying b lines.Start h else in_text b h))) ≡ goes b (if x then lines.Start else lines.Text) h
 unfolding goes
 start_by x true z b h m n p r q = absurd (let no : true ≡ false = p in cc)
@@ -91,34 +91,34 @@ start_by x false true b h m n p r q = absurd (let no : true ≡ false = r in cc)
 start_by true false false b h m n p r q = refl
 start_by false false false b h m n p r q = q
 
-start_met : (b : ℕ) (h : Half) → is_moved b h ≡ false
+start_offered : (b : ℕ) (h : Half) → is_moved b h ≡ false
     → (not (is_control b) && is_text_as_is b h && not (follows_tag h && begins_apart b)) ≡ true
     → at_start b h ≡ goes b (if b == code "\n" then lines.Start else lines.Text) h
-start_met b h still p =
+start_offered b h still p =
     let plain = not (is_control b) in
     let whole = is_text_as_is b h in
-    let behind = follows_tag h && begins_apart b in
-    let two = and-first (plain && whole) (not behind) p in
-    start_by (b == code "\n") (is_control b) behind b h (control false b h) (breaking b h)
-    (is_not (is_control b) (and-first plain whole two)) (is_not behind (and-second (plain && whole) (not behind) p)) (text_met b h still (and-second plain whole two))
+    let preceded = follows_tag h && begins_apart b in
+    let two = and-first (plain && whole) (not preceded) p in
+    start_by (b == code "\n") (is_control b) preceded b h (control false b h) (breaking b h)
+    (is_not (is_control b) (and-first plain whole two)) (is_not preceded (and-second (plain && whole) (not preceded) p)) (text_offered b h still (and-second plain whole two))
 
-fonts_met : (b : ℕ) (h : Half) → is_moved b h ≡ false → (not (b == code " ") && is_text_as_is b h) ≡ true
+fonts_offered : (b : ℕ) (h : Half) → is_moved b h ≡ false → (not (b == code " ") && is_text_as_is b h) ≡ true
     → after_fonts b h ≡ goes b (if b == code "\n" then lines.Start else lines.Text) h
-fonts_met b h still p =
+fonts_offered b h still p =
     let blank = not (b == code " ") in
     let whole = is_text_as_is b h in
     ap (λ (x : Bool). if x && not (is_read h.table) then left (says.Escape (code "&")) (record h { line = lines.Text }) else in_text b h)
     (is_not (b == code " ") (and-first blank whole p))
-    ∙ text_met b h still (and-second blank whole p)
+    ∙ text_offered b h still (and-second blank whole p)
 
 -- ---- among words
 
-words_told : (place : Place) (class : Class) (said : Said) (w : Words) → goes_on_at place class ≡ true
-    → met_at place class said w ≡ record { words = words_at place w; said = said; takes = true }
-words_told Inside Other said w p = refl
-words_told Quoted Other said w p = refl
-words_told Quoted Space said w p = refl
-words_told place class said w p = absurd (let no : false ≡ true = p in cc)
+words_emitted : (place : Place) (class : Class) (said : Said) (w : Words) → goes_on_at place class ≡ true
+    → offered_at place class said w ≡ record { words = words_at place w; said = said; takes = true }
+words_emitted Inside Other said w p = refl
+words_emitted Quoted Other said w p = refl
+words_emitted Quoted Space said w p = refl
+words_emitted place class said w p = absurd (let no : false ≡ true = p in cc)
 
 blank_kept : (fonts : Fonts) (said : Said) → blank_by fonts false said ≡ said
 blank_kept One said = refl
@@ -127,38 +127,38 @@ blank_kept (Turn a b) said = refl
 blank_kept Tag said = refl
 
 -- up to the eighth word
-space_told : (place : Place) (said : Said) (w : Words) → spaced_at place ≡ true → is_ninth w ≡ false
-    → met_at place Space said w ≡ record { words = words_at (after_space place) w; said = said; takes = true }
-space_told Between said w p q =
+space_emitted : (place : Place) (said : Said) (w : Words) → spaced_at place ≡ true → is_ninth w ≡ false
+    → offered_at place Space said w ≡ record { words = words_at (after_space place) w; said = said; takes = true }
+space_emitted Between said w p q =
     ap (λ (x : Bool). record { words = words_at Between w; said = blank_by w.fonts x said; takes = true }) q
     ∙ ap (λ (s : Said). record { words = words_at Between w; said = s; takes = true }) (blank_kept w.fonts said)
-space_told Inside said w p q =
+space_emitted Inside said w p q =
     ap (λ (x : Bool). record { words = words_at Between w; said = blank_by w.fonts x said; takes = true }) q
     ∙ ap (λ (s : Said). record { words = words_at Between w; said = s; takes = true }) (blank_kept w.fonts said)
-space_told Quoted said w p q = refl
-space_told place said w p q = absurd (let no : false ≡ true = p in cc)
+space_emitted Quoted said w p q = refl
+space_emitted place said w p q = absurd (let no : false ≡ true = p in cc)
 
 pub quoted_space : (place : Place) → goes_on_at place Space ≡ true → after_space place ≡ place
 quoted_space Quoted p = refl
 quoted_space place p = absurd (let no : false ≡ true = p in cc)
 
 space_by : (ninth : Bool) (said : Said) (w : Words) → is_ninth w ≡ ninth → (if ninth then goes_on_at w.place Space else spaced_at w.place) ≡ true
-    → met_at w.place Space said w ≡ record { words = words_at (after_space w.place) w; said = said; takes = true }
+    → offered_at w.place Space said w ≡ record { words = words_at (after_space w.place) w; said = said; takes = true }
 space_by true said w e p =
-    words_told w.place Space said w p
+    words_emitted w.place Space said w p
     ∙ ap (λ (q : Place). record { words = words_at q w; said = said; takes = true }) (sym (quoted_space w.place p))
-space_by false said w e p = space_told w.place said w p e
+space_by false said w e p = space_emitted w.place said w p e
 
-WordTold : Bool → ℕ → Words → Type 0
-WordTold s b w = met_at w.place (class_of b) (says.Byte b) w ≡ record { words = if s then words_at (after_space w.place) w else w; said = says.Byte b; takes = true }
+WordEmitted : Bool → ℕ → Words → Type 0
+WordEmitted s b w = offered_at w.place (class_of b) (says.Byte b) w ≡ record { words = if s then words_at (after_space w.place) w else w; said = says.Byte b; takes = true }
 
 word_by : (s : Bool) (b : ℕ) (w : Words) → (b == code " ") ≡ s → (if s then goes_on_with_space w else not (b == code "-") && goes_on_with (class_of b) w) ≡ true
-    → WordTold s b w
-unfolding WordTold
+    → WordEmitted s b w
+unfolding WordEmitted
 word_by true b w e p =
-    ap (λ (x : Bool). met_at w.place (if x then Space else (if b == code "\"" then Quote else Other)) (says.Byte b) w) e
+    ap (λ (x : Bool). offered_at w.place (if x then Space else (if b == code "\"" then Quote else Other)) (says.Byte b) w) e
     ∙ space_by (is_ninth w) (says.Byte b) w refl p
-word_by false b w e p = words_told w.place (class_of b) (says.Byte b) w (and-second (not (b == code "-")) (goes_on_with (class_of b) w) p)
+word_by false b w e p = words_emitted w.place (class_of b) (says.Byte b) w (and-second (not (b == code "-")) (goes_on_with (class_of b) w) p)
 
 no_hyphen_by : (n s : Bool) (b : ℕ) (w : Words) → (b == code "\n") ≡ n → (b == code " ") ≡ s
     → (if n then not (is_ninth w) else if s then goes_on_with_space w else not (b == code "-") && goes_on_with (class_of b) w) ≡ true → (b == code "-") ≡ false
@@ -170,14 +170,14 @@ words_by : (n : Bool) (b : ℕ) (w : Words) (h : Half) → (b == code "\n") ≡ 
     → (if n then not (is_ninth w) else if b == code " " then goes_on_with_space w else not (b == code "-") && goes_on_with (class_of b) w) ≡ true
     → (if not n then among_words w (class_of b) (says.Byte b) (gone_by b h) else if is_ninth w then left (says.Byte (code "\"")) (record h { line = lines.Request }) else saying b lines.Start h)
     ≡ goes b (if n then lines.Start else lines.Words (word_taken b w)) h
-unfolding goes WordTold
+unfolding goes WordEmitted
 words_by true b w h e p =
     ap (λ (x : Bool). if x then left (says.Byte (code "\"")) (record h { line = lines.Request }) else saying b lines.Start h) (is_not (is_ninth w) p)
 words_by false b w h e p =
-    ap (λ (t : WordsTold). as_met t (gone_by b h)) (word_by (b == code " ") b w refl p)
+    ap (λ (t : WordsEmitted). as_offered t (gone_by b h)) (word_by (b == code " ") b w refl p)
 
-words_met : (w : Words) (b : ℕ) (h : Half) → is_moved b h ≡ false → word_as_is b w ≡ true → in_words w b h ≡ goes b (line_taken (lines.Words w) b) h
-words_met w b h still p =
+words_offered : (w : Words) (b : ℕ) (h : Half) → is_moved b h ≡ false → word_as_is b w ≡ true → in_words w b h ≡ goes b (line_taken (lines.Words w) b) h
+words_offered w b h still p =
     ap (λ (x : Bool). if x then word_moved w b h else
     (if (b == code "-") && turns_hyphens h && not (begins_word w) then hyphen (lines.Words w) h else
     (if not (b == code "\n") then among_words w (class_of b) (says.Byte b) (gone_by b h) else
@@ -190,26 +190,26 @@ words_met w b h still p =
 
 -- ---- by where the line is read
 
-rest_met : (l : Line) (b : ℕ) (h : Half) → h.line ≡ l → (b == carriage_return) ≡ false → in_rest b h ≡ goes b (if b == code "\n" then lines.Start else l) h
+rest_offered : (l : Line) (b : ℕ) (h : Half) → h.line ≡ l → (b == carriage_return) ≡ false → in_rest b h ≡ goes b (if b == code "\n" then lines.Start else l) h
 unfolding goes
-rest_met l b h e back =
+rest_offered l b h e back =
     ap (λ (x : Bool). if x then taken says.Nothing h else saying b (if b == code "\n" then lines.Start else h.line) h) back
     ∙ ap (λ (m : Line). saying b (if b == code "\n" then lines.Start else m) h) e
 
-line_met : (line : Line) (b : ℕ) (h : Half) → h.line ≡ line → (b == carriage_return) ≡ false → is_moved b h ≡ false → is_as_is_at line b h ≡ true
+line_offered : (line : Line) (b : ℕ) (h : Half) → h.line ≡ line → (b == carriage_return) ≡ false → is_moved b h ≡ false → is_as_is_at line b h ≡ true
     → in_line_at line b h ≡ goes b (line_taken line b) h
-line_met lines.Request b h e back still p = rest_met lines.Request b h e back
-line_met lines.Stored b h e back still p = rest_met lines.Stored b h e back
-line_met lines.Fonts b h e back still p = fonts_met b h still p
-line_met lines.Text b h e back still p = text_met b h still p
-line_met lines.Start b h e back still p = start_met b h still p
-line_met (lines.Words words) b h e back still p = words_met words b h still p
-line_met line b h e back still p = absurd (let no : false ≡ true = p in cc)
+line_offered lines.Request b h e back still p = rest_offered lines.Request b h e back
+line_offered lines.Stored b h e back still p = rest_offered lines.Stored b h e back
+line_offered lines.Fonts b h e back still p = fonts_offered b h still p
+line_offered lines.Text b h e back still p = text_offered b h still p
+line_offered lines.Start b h e back still p = start_offered b h still p
+line_offered (lines.Words words) b h e back still p = words_offered words b h still p
+line_offered line b h e back still p = absurd (let no : false ≡ true = p in cc)
 
 -- ---- what is half read then
 
 gone_as : Bool → Bool → ℕ → Half → Half
-gone_as x m b h = if x then line_behind h else (if m then record h { before = followed (mark_of b) h.before } else h)
+gone_as x m b h = if x then line_after h else (if m then record h { before = followed (mark_of b) h.before } else h)
 
 gone_line : (x m : Bool) (b : ℕ) (h : Half) (l : Line) → record (gone_as x m b h) { line = l } ≡ gone_as x m b (record h { line = l })
 unfolding gone_as
@@ -223,8 +223,8 @@ goes_is b h = ap (taken (says.Byte b)) (gone_line (b == code "\n") h.manual b h 
 
 -- ---- so it is read
 
-pub as_is_meets : (b : ℕ) (h : Half) → is_as_is b h ≡ true → meet (comings.Byte b) h ≡ taken (says.Byte b) (taken_as_is b h)
-as_is_meets b h p =
+pub as_is_offers : (b : ℕ) (h : Half) → is_as_is b h ≡ true → offer (comings.Byte b) h ≡ taken (says.Byte b) (taken_as_is b h)
+as_is_offers b h p =
     let passes = may_pass b in
     let back = not (b == code "\\") in
     let free = is_open h in
@@ -238,7 +238,7 @@ as_is_meets b h p =
     ap (λ (x : Bool). if x then plain_byte b h else in_escape b h) (and-first plain (not h.translating) clear)
     ∙ ap (λ (x : Bool). if x && takes_escape h.line then beginning h else in_line b h)
     (is_not (b == code "\\") (and-second passes back both))
-    ∙ line_met h.line b h refl no_return still (and-second (passes && back && free) at p)
+    ∙ line_offered h.line b h refl no_return still (and-second (passes && back && free) at p)
     ∙ goes_is b h
 
 pub as_is_ascii : (b : ℕ) (h : Half) → is_as_is b h ≡ true → nat_lt b 127 ≡ true
@@ -249,12 +249,12 @@ as_is_ascii b h p =
     and-first (nat_lt b 127) (not (b == carriage_return))
     (and-first passes back (and-first (passes && back) free (and-first (passes && back && free) (is_as_is_at h.line b h) p)))
 
-pub heard_byte_taken : (b : ℕ) (r : Reader) (h : Half) → nat_lt b 127 ≡ true → meet (comings.Byte b) r.half ≡ taken (says.Byte b) h
-    → heard (comings.Byte b) r ≡ told (with_half h r) (b ∷ []) 1
+pub heard_byte_taken : (b : ℕ) (r : Reader) (h : Half) → nat_lt b 127 ≡ true → offer (comings.Byte b) r.half ≡ taken (says.Byte b) h
+    → heard (comings.Byte b) r ≡ emitted (with_half h r) (b ∷ []) 1
 unfolding heard
 heard_byte_taken b r h ascii e =
-    ap (λ (m : Met). behind (bytes_of r.table m.said) 1 (if m.takes then told (with_half m.half r) [] 0 else heard_in 5 (comings.Byte b) (with_half m.half r))) e
-    ∙ ap (λ (x : ℕ). told (with_half h r) (x ∷ []) 1) (sent_is r.table b (ascii-goes r.table b ascii))
+    ap (λ (m : Offered). preceded (bytes_of r.table m.said) 1 (if m.takes then emitted (with_half m.half r) [] 0 else heard_in 5 (comings.Byte b) (with_half m.half r))) e
+    ∙ ap (λ (x : ℕ). emitted (with_half h r) (x ∷ []) 1) (sent_is r.table b (ascii-goes r.table b ascii))
 
 -- where nothing is pending, nothing is heard of it
 pub none_heard : (p : Pending) (r : Reader) → p ≡ pendings.Nothing → r.pending ≡ p → pending_with pendings.Nothing r ≡ r
@@ -264,48 +264,48 @@ pub nothing_pending : (b : ℕ) (r : Reader) → r.pending ≡ pendings.Nothing 
 nothing_pending b r e =
     let same : pending_with pendings.Nothing r ≡ r = none_heard r.pending r e refl in
     ap (λ (p : Pending). heard_after p b r) e
-    ∙ ap (λ (p : Pending). then_told (strays p (pending_with pendings.Nothing r)) (λ s. fresh b s)) e
-    ∙ ap (λ (s : Reader). behind [] 0 (fresh b s)) same
-    ∙ behind-none (fresh b r)
+    ∙ ap (λ (p : Pending). then_emitted (strays p (pending_with pendings.Nothing r)) (λ s. fresh b s)) e
+    ∙ ap (λ (s : Reader). preceded [] 0 (fresh b s)) same
+    ∙ preceded-none (fresh b r)
 
 pub read_as_is : (b : ℕ) (r : Reader) → r.pending ≡ pendings.Nothing → is_raw r.half.line ≡ false → is_as_is b r.half ≡ true
-    → read b r ≡ told (with_half (taken_as_is b r.half) r) (b ∷ []) 1
+    → read b r ≡ emitted (with_half (taken_as_is b r.half) r) (b ∷ []) 1
 read_as_is b r none cooked p =
     let ascii = as_is_ascii b r.half p in
-    ap (λ (x : Bool). if x then told (with_half (passing b r.half) r) (sent r.table b ∷ []) 1 else heard_byte b r) cooked
+    ap (λ (x : Bool). if x then emitted (with_half (passing b r.half) r) (sent r.table b ∷ []) 1 else heard_byte b r) cooked
     ∙ nothing_pending b r none
-    ∙ ap (λ (x : Bool). if x then heard (comings.Byte b) r else (if is_lead b then told (pending_with (pendings.One b) r) [] 0 else stray b r)) ascii
-    ∙ heard_byte_taken b r (taken_as_is b r.half) ascii (as_is_meets b r.half p)
+    ∙ ap (λ (x : Bool). if x then heard (comings.Byte b) r else (if is_lead b then emitted (pending_with (pendings.One b) r) [] 0 else stray b r)) ascii
+    ∙ heard_byte_taken b r (taken_as_is b r.half) ascii (as_is_offers b r.half p)
 
--- however often it was met before
-pub heard_as_is : (n b : ℕ) (r : Reader) → 0 < n → is_as_is b r.half ≡ true → heard_in n (comings.Byte b) r ≡ told (with_half (taken_as_is b r.half) r) (b ∷ []) 1
+-- however often it was offered before
+pub heard_as_is : (n b : ℕ) (r : Reader) → 0 < n → is_as_is b r.half ≡ true → heard_in n (comings.Byte b) r ≡ emitted (with_half (taken_as_is b r.half) r) (b ∷ []) 1
 heard_as_is n b r some p =
     let c = comings.Byte b in
     let k = n - 1 in
     let e : n ≡ suc k = omega arith in
     ap (λ (m : ℕ). heard_in m c r) e
-    ∙ ap (λ (m : Met). behind (bytes_of r.table m.said) 1 (if m.takes then told (with_half m.half r) [] 0 else heard_in k c (with_half m.half r))) (as_is_meets b r.half p)
-    ∙ ap (λ (x : ℕ). told (with_half (taken_as_is b r.half) r) (x ∷ []) 1) (sent_is r.table b (ascii-goes r.table b (as_is_ascii b r.half p)))
+    ∙ ap (λ (m : Offered). preceded (bytes_of r.table m.said) 1 (if m.takes then emitted (with_half m.half r) [] 0 else heard_in k c (with_half m.half r))) (as_is_offers b r.half p)
+    ∙ ap (λ (x : ℕ). emitted (with_half (taken_as_is b r.half) r) (x ∷ []) 1) (sent_is r.table b (ascii-goes r.table b (as_is_ascii b r.half p)))
 
 pub Passes-more : (r s t : Reader) (bs : List ℕ) (i : ℕ) → Passes i bs r s → i < length bs
-    → read (get_or bs i 0) s ≡ told t (get_or bs i 0 ∷ []) 1 → Passes (i + 1) bs r t
+    → read (get_or bs i 0) s ≡ emitted t (get_or bs i 0 ∷ []) 1 → Passes (i + 1) bs r t
 Passes-more r s t bs i before l next =
     let xs = take i bs in
     let b = get_or bs i 0 in
-    let front : take (i + 1) bs ≡ xs ++ b ∷ [] = rw add-one (take-suc bs i 0 l) in
-    let one : fed s (b ∷ []) ≡ told t (b ∷ []) 1 = ap (λ (u : Told). then_told u (λ v. told v [] 0)) next in
-    let both : fed r (xs ++ b ∷ []) ≡ told t (xs ++ b ∷ []) (i + 1) =
-    fed-append r xs (b ∷ []) ∙ ap (λ (u : Told). then_told u (λ v. fed v (b ∷ []))) before ∙ ap (behind xs i) one in
-    rw front both
+    let prefix : take (i + 1) bs ≡ xs ++ b ∷ [] = rw add-one (take-suc bs i 0 l) in
+    let one : fed s (b ∷ []) ≡ emitted t (b ∷ []) 1 = ap (λ (u : Emitted). then_emitted u (λ v. emitted v [] 0)) next in
+    let both : fed r (xs ++ b ∷ []) ≡ emitted t (xs ++ b ∷ []) (i + 1) =
+    fed-append r xs (b ∷ []) ∙ ap (λ (u : Emitted). then_emitted u (λ v. fed v (b ∷ []))) before ∙ ap (preceded xs i) one in
+    rw prefix both
 
 -- first some, then of the first k that are left
 pub Passes-both : (n m k : ℕ) (bs : List ℕ) (r s t : Reader) → m ≤ k → Passes n bs r s → Passes m (take k (drop n bs)) s t → Passes (n + m) bs r t
 Passes-both n m k bs r s t l before next =
     let xs = take n bs in
     let ys = take m (drop n bs) in
-    let P : List ℕ → Type 0 = λ zs. fed s zs ≡ told t zs m in
-    let more : fed s ys ≡ told t ys m = subst P (take-take m k (drop n bs) l) next in
+    let P : List ℕ → Type 0 = λ zs. fed s zs ≡ emitted t zs m in
+    let more : fed s ys ≡ emitted t ys m = subst P (take-take m k (drop n bs) l) next in
     let whole : take (n + m) bs ≡ xs ++ ys = take-add n m bs in
-    let both : fed r (xs ++ ys) ≡ told t (xs ++ ys) (n + m) =
-    fed-append r xs ys ∙ ap (λ (u : Told). then_told u (λ v. fed v ys)) before ∙ ap (behind xs n) more in
+    let both : fed r (xs ++ ys) ≡ emitted t (xs ++ ys) (n + m) =
+    fed-append r xs ys ∙ ap (λ (u : Emitted). then_emitted u (λ v. fed v ys)) before ∙ ap (preceded xs n) more in
     rw whole both

@@ -14,15 +14,15 @@ use Rattle.preconv_converter.specs.declared.said.Said.{Said}
 use Rattle.preconv_converter.specs.declared.said.Said.TheVariants as says
 use Rattle.preconv_converter.specs.declared.reader.Reader.{Reader}
 use Rattle.preconv_converter.specs.declared.reader.Pending.TheVariants.{Nothing, One}
-use Rattle.preconv_converter.specs.Half.{Met, taken, is_plain, without_escape, in_text}
+use Rattle.preconv_converter.specs.Half.{Offered, taken, is_plain, without_escape, in_text}
 use Rattle.preconv_converter.specs.Hyphens.{placed}
 use Rattle.preconv_converter.specs.Words.{begins_word}
 use Rattle.preconv_converter.specs.Saying.{bytes_of, sent}
 use Rattle.preconv_converter.specs.Letters.{waits, made_way, letter}
 use Rattle.preconv_converter.specs.Escapes.{in_escape}
 use Rattle.preconv_converter.specs.Lines.{in_line, takes_escape, passing}
-use Rattle.preconv_converter.specs.Meeting.{meet, plain_byte, beginning, is_raw}
-use Rattle.preconv_converter.specs.Reading.{Told, told, behind, then_told, heard, heard_in, heard_byte, with_half, pending_with, read, fed, is_lead, stray}
+use Rattle.preconv_converter.specs.Offering.{offer, plain_byte, beginning, is_raw}
+use Rattle.preconv_converter.specs.Reading.{Emitted, emitted, preceded, then_emitted, heard, heard_in, heard_byte, with_half, pending_with, read, fed, is_lead, stray}
 use Rattle.preconv_converter.specs.Passing.{Passes}
 use Rattle.preconv_converter.specs.Runs.{takes_plain_at, takes_plain_escape, is_kept, begins_kept, begins_font, is_font, after_font, after_kept}
 use Rattle.preconv_converter.proofs.Plain.{and-first, and-second, is_not, nothing_pending}
@@ -30,14 +30,14 @@ use Rattle.preconv_converter.proofs.AtOnce.{placed_as}
 
 -- ---- an ASCII character that is taken at once
 
-pub meets : (b : ℕ) (r : Reader) (said : Said) (h : Half) → r.pending ≡ Nothing → is_raw r.half.line ≡ false → nat_lt b 127 ≡ true
-    → meet (comings.Byte b) r.half ≡ taken said h → read b r ≡ told (with_half h r) (bytes_of r.table said ++ []) 1
+pub offers : (b : ℕ) (r : Reader) (said : Said) (h : Half) → r.pending ≡ Nothing → is_raw r.half.line ≡ false → nat_lt b 127 ≡ true
+    → offer (comings.Byte b) r.half ≡ taken said h → read b r ≡ emitted (with_half h r) (bytes_of r.table said ++ []) 1
 unfolding heard
-meets b r said h none cooked ascii e =
-    ap (λ (x : Bool). if x then told (with_half (passing b r.half) r) (sent r.table b ∷ []) 1 else heard_byte b r) cooked
+offers b r said h none cooked ascii e =
+    ap (λ (x : Bool). if x then emitted (with_half (passing b r.half) r) (sent r.table b ∷ []) 1 else heard_byte b r) cooked
     ∙ nothing_pending b r none
-    ∙ ap (λ (x : Bool). if x then heard (comings.Byte b) r else (if is_lead b then told (pending_with (One b) r) [] 0 else stray b r)) ascii
-    ∙ ap (λ (m : Met). behind (bytes_of r.table m.said) 1 (if m.takes then told (with_half m.half r) [] 0 else heard_in 5 (comings.Byte b) (with_half m.half r))) e
+    ∙ ap (λ (x : Bool). if x then heard (comings.Byte b) r else (if is_lead b then emitted (pending_with (One b) r) [] 0 else stray b r)) ascii
+    ∙ ap (λ (m : Offered). preceded (bytes_of r.table m.said) 1 (if m.takes then emitted (with_half m.half r) [] 0 else heard_in 5 (comings.Byte b) (with_half m.half r))) e
 
 -- ---- where they may stand
 
@@ -70,16 +70,16 @@ ready_at line p = absurd (let no : false ≡ true = p in cc)
 begun : Half → Half
 begun h = record h { escape = escapes.Begun; kept = code "\\" ∷ []; spelled = [] }
 
-backslash_met : (h : Half) → is_plain h.escape ≡ true → takes_plain_at h.line ≡ true → meet (comings.Byte (code "\\")) h ≡ taken says.Nothing (begun h)
+backslash_offered : (h : Half) → is_plain h.escape ≡ true → takes_plain_at h.line ≡ true → offer (comings.Byte (code "\\")) h ≡ taken says.Nothing (begun h)
 unfolding begun
-backslash_met h plain at =
+backslash_offered h plain at =
     ap (λ (x : Bool). if x then plain_byte (code "\\") h else in_escape (code "\\") h) plain
     ∙ ap (λ (x : Bool). if x then beginning h else in_line (code "\\") h) (backslash_at h.line at)
 
 backslash_read : (r : Reader) → r.pending ≡ Nothing → is_plain r.half.escape ≡ true → takes_plain_at r.half.line ≡ true
-    → read (code "\\") r ≡ told (with_half (begun r.half) r) [] 1
+    → read (code "\\") r ≡ emitted (with_half (begun r.half) r) [] 1
 backslash_read r none plain at =
-    meets (code "\\") r says.Nothing (begun r.half) none (cooked_at r.half.line at) refl (backslash_met r.half plain at)
+    offers (code "\\") r says.Nothing (begun r.half) none (cooked_at r.half.line at) refl (backslash_offered r.half plain at)
 
 -- ---- an escape of two bytes
 
@@ -92,37 +92,37 @@ kept_half : (b : ℕ) (h : Half) → in_text (without_escape (placed Other (reco
 kept_half b h = ap in_text (forgotten_by h.manual h escapes.Begun (code "\\" ∷ b ∷ []) [])
 
 KeptRead : Reader → ℕ → Type 0
-KeptRead r b = read b (with_half (begun r.half) r) ≡ told (with_half (after_kept r.half) r) (code "\\" ∷ b ∷ []) 1
+KeptRead r b = read b (with_half (begun r.half) r) ≡ emitted (with_half (after_kept r.half) r) (code "\\" ∷ b ∷ []) 1
 
 -- where its letter ends it
 kept_by : (r : Reader) → r.pending ≡ Nothing → takes_plain_at r.half.line ≡ true → (b : ℕ) → nat_lt b 127 ≡ true
     → bytes_of r.table (says.Kept (code "\\" ∷ b ∷ [])) ≡ code "\\" ∷ b ∷ []
-    → meet (comings.Byte b) (begun r.half) ≡ (if waits r.half.line then made_way r.half.line (begun r.half) else taken (says.Kept (code "\\" ∷ b ∷ [])) (in_text (without_escape (placed Other (record r.half { escape = escapes.Begun; kept = code "\\" ∷ b ∷ []; spelled = [] })))))
+    → offer (comings.Byte b) (begun r.half) ≡ (if waits r.half.line then made_way r.half.line (begun r.half) else taken (says.Kept (code "\\" ∷ b ∷ [])) (in_text (without_escape (placed Other (record r.half { escape = escapes.Begun; kept = code "\\" ∷ b ∷ []; spelled = [] })))))
     → KeptRead r b
 unfolding KeptRead begun
 kept_by r none at b ascii sends ends =
     let h = record r.half { escape = escapes.Begun; kept = code "\\" ∷ []; spelled = [] } in
     let k = in_text (without_escape (placed Other (record r.half { escape = escapes.Begun; kept = code "\\" ∷ b ∷ []; spelled = [] }))) in
-    meets b (with_half h r) (says.Kept (code "\\" ∷ b ∷ [])) (after_kept r.half) none (cooked_at r.half.line at) ascii
+    offers b (with_half h r) (says.Kept (code "\\" ∷ b ∷ [])) (after_kept r.half) none (cooked_at r.half.line at) ascii
     (ends
     ∙ ap (λ (x : Bool). if x then made_way r.half.line h else taken (says.Kept (code "\\" ∷ b ∷ [])) k) (ready_at r.half.line at)
     ∙ ap (taken (says.Kept (code "\\" ∷ b ∷ []))) (kept_half b r.half))
-    ∙ ap (λ (xs : List ℕ). told (with_half (after_kept r.half) r) (xs ++ []) 1) sends
+    ∙ ap (λ (xs : List ℕ). emitted (with_half (after_kept r.half) r) (xs ++ []) 1) sends
 
 -- ---- a font
 
 named : Half → Half
 named h = record h { escape = escapes.Target kinds.Font; kept = code "\\" ∷ code "f" ∷ []; spelled = [] }
 
-letter_met : (h : Half) → takes_plain_at h.line ≡ true → meet (comings.Byte (code "f")) (begun h) ≡ taken says.Nothing (named h)
+letter_offered : (h : Half) → takes_plain_at h.line ≡ true → offer (comings.Byte (code "f")) (begun h) ≡ taken says.Nothing (named h)
 unfolding begun named
-letter_met h at = ap (λ (x : Bool). if x then made_way h.line (begun h) else letter (code "f") (begun h)) (ready_at h.line at)
+letter_offered h at = ap (λ (x : Bool). if x then made_way h.line (begun h) else letter (code "f") (begun h)) (ready_at h.line at)
 
 letter_read : (r : Reader) → r.pending ≡ Nothing → takes_plain_at r.half.line ≡ true
-    → read (code "f") (with_half (begun r.half) r) ≡ told (with_half (named r.half) r) [] 1
+    → read (code "f") (with_half (begun r.half) r) ≡ emitted (with_half (named r.half) r) [] 1
 unfolding begun
 letter_read r none at =
-    meets (code "f") (with_half (begun r.half) r) says.Nothing (named r.half) none (cooked_at r.half.line at) refl (letter_met r.half at)
+    offers (code "f") (with_half (begun r.half) r) says.Nothing (named r.half) none (cooked_at r.half.line at) refl (letter_offered r.half at)
 
 -- these four are its letters
 pub is_one : (c x : ℕ) → (c == x) ≡ true → c ≡ x
@@ -153,31 +153,31 @@ kept_read r none at b p =
     b (b == code "-") (b == code "&") (b == code "|") (b == code "c") (b == code "e") refl refl refl refl refl p
 
 kept_fed : (r : Reader) (b : ℕ) → r.pending ≡ Nothing → is_plain r.half.escape ≡ true → takes_plain_at r.half.line ≡ true → is_kept b ≡ true
-    → fed r (code "\\" ∷ b ∷ []) ≡ told (with_half (after_kept r.half) r) (code "\\" ∷ b ∷ []) 2
+    → fed r (code "\\" ∷ b ∷ []) ≡ emitted (with_half (after_kept r.half) r) (code "\\" ∷ b ∷ []) 2
 unfolding KeptRead
 kept_fed r b none plain at p =
-    ap (λ (t : Told). then_told t (λ s. fed s (b ∷ []))) (backslash_read r none plain at)
-    ∙ ap (λ (t : Told). behind [] 1 (then_told t (λ s. told s [] 0))) (kept_read r none at b p)
+    ap (λ (t : Emitted). then_emitted t (λ s. fed s (b ∷ []))) (backslash_read r none plain at)
+    ∙ ap (λ (t : Emitted). preceded [] 1 (then_emitted t (λ s. emitted s [] 0))) (kept_read r none at b p)
 
 FontRead : Reader → ℕ → Type 0
-FontRead r c = read c (with_half (named r.half) r) ≡ told (with_half (after_font c r.half) r) (code "\\" ∷ code "f" ∷ c ∷ []) 1
+FontRead r c = read c (with_half (named r.half) r) ≡ emitted (with_half (after_font c r.half) r) (code "\\" ∷ code "f" ∷ c ∷ []) 1
 
 font_read : (r : Reader) → r.pending ≡ Nothing → takes_plain_at r.half.line ≡ true → (c : ℕ) → is_font c ≡ true → FontRead r c
 unfolding FontRead named
 font_read r none at c p =
     let s = with_half (named r.half) r in
     let cooked = cooked_at r.half.line at in
-    by_letter (FontRead r) (meets (code "B") s (says.Font (code "B")) (after_font (code "B") r.half) none cooked refl refl) (meets (code "I") s (says.Font (code "I")) (after_font (code "I") r.half) none cooked refl refl)
-    (meets (code "P") s (says.Font (code "P")) (after_font (code "P") r.half) none cooked refl refl) (meets (code "R") s (says.Font (code "R")) (after_font (code "R") r.half) none cooked refl refl)
+    by_letter (FontRead r) (offers (code "B") s (says.Font (code "B")) (after_font (code "B") r.half) none cooked refl refl) (offers (code "I") s (says.Font (code "I")) (after_font (code "I") r.half) none cooked refl refl)
+    (offers (code "P") s (says.Font (code "P")) (after_font (code "P") r.half) none cooked refl refl) (offers (code "R") s (says.Font (code "R")) (after_font (code "R") r.half) none cooked refl refl)
     c (c == code "B") (c == code "I") (c == code "P") (c == code "R") refl refl refl refl p
 
 font_fed : (r : Reader) (c : ℕ) → r.pending ≡ Nothing → is_plain r.half.escape ≡ true → takes_plain_at r.half.line ≡ true → is_font c ≡ true
-    → fed r (code "\\" ∷ code "f" ∷ c ∷ []) ≡ told (with_half (after_font c r.half) r) (code "\\" ∷ code "f" ∷ c ∷ []) 3
+    → fed r (code "\\" ∷ code "f" ∷ c ∷ []) ≡ emitted (with_half (after_font c r.half) r) (code "\\" ∷ code "f" ∷ c ∷ []) 3
 unfolding FontRead
 font_fed r c none plain at p =
-    ap (λ (t : Told). then_told t (λ s. fed s (code "f" ∷ c ∷ []))) (backslash_read r none plain at)
-    ∙ ap (λ (t : Told). behind [] 1 (then_told t (λ s. fed s (c ∷ [])))) (letter_read r none at)
-    ∙ ap (λ (t : Told). behind [] 1 (behind [] 1 (then_told t (λ s. told s [] 0)))) (font_read r none at c p)
+    ap (λ (t : Emitted). then_emitted t (λ s. fed s (code "f" ∷ c ∷ []))) (backslash_read r none plain at)
+    ∙ ap (λ (t : Emitted). preceded [] 1 (then_emitted t (λ s. fed s (c ∷ [])))) (letter_read r none at)
+    ∙ ap (λ (t : Emitted). preceded [] 1 (preceded [] 1 (then_emitted t (λ s. emitted s [] 0)))) (font_read r none at c p)
 
 -- ---- so they pass
 
@@ -194,7 +194,7 @@ pub kept_passes : (bs : List ℕ) (r : Reader) → r.pending ≡ Nothing → tak
 kept_passes [] r none may is = absurd (let no : false ≡ true = is in cc)
 kept_passes (a ∷ []) r none may is = absurd (let no : false ≡ true = is in cc)
 kept_passes (a ∷ b ∷ bs) r none may is =
-    let P : ℕ → Type 0 = λ x. fed r (x ∷ b ∷ []) ≡ told (with_half (after_kept r.half) r) (x ∷ b ∷ []) 2 in
+    let P : ℕ → Type 0 = λ x. fed r (x ∷ b ∷ []) ≡ emitted (with_half (after_kept r.half) r) (x ∷ b ∷ []) 2 in
     let whole : P (code "\\") =
     kept_fed r b none (plain_first (is_plain r.half.escape) (takes_plain_at r.half.line) may) (plain_second (is_plain r.half.escape) (takes_plain_at r.half.line) may)
     (and-second (a == code "\\") (is_kept b) is) in
@@ -206,10 +206,10 @@ font_passes [] r none may is = absurd (let no : false ≡ true = is in cc)
 font_passes (a ∷ []) r none may is = absurd (let no : false ≡ true = is in cc)
 font_passes (a ∷ b ∷ []) r none may is = absurd (let no : false ≡ true = is in cc)
 font_passes (a ∷ b ∷ c ∷ bs) r none may is =
-    let front = and-first ((a == code "\\") && (b == code "f")) (is_font c) is in
-    let P : ℕ → ℕ → Type 0 = λ x y. fed r (x ∷ y ∷ c ∷ []) ≡ told (with_half (after_font c r.half) r) (x ∷ y ∷ c ∷ []) 3 in
+    let prefix = and-first ((a == code "\\") && (b == code "f")) (is_font c) is in
+    let P : ℕ → ℕ → Type 0 = λ x y. fed r (x ∷ y ∷ c ∷ []) ≡ emitted (with_half (after_font c r.half) r) (x ∷ y ∷ c ∷ []) 3 in
     let whole : P (code "\\") (code "f") =
     font_fed r c none (plain_first (is_plain r.half.escape) (takes_plain_at r.half.line) may) (plain_second (is_plain r.half.escape) (takes_plain_at r.half.line) may)
     (and-second ((a == code "\\") && (b == code "f")) (is_font c) is) in
-    let one : P a (code "f") = subst (λ (x : ℕ). P x (code "f")) (sym (is_one a (code "\\") (and-first (a == code "\\") (b == code "f") front))) whole in
-    subst (P a) (sym (is_one b (code "f") (and-second (a == code "\\") (b == code "f") front))) one
+    let one : P a (code "f") = subst (λ (x : ℕ). P x (code "f")) (sym (is_one a (code "\\") (and-first (a == code "\\") (b == code "f") prefix))) whole in
+    subst (P a) (sym (is_one b (code "f") (and-second (a == code "\\") (b == code "f") prefix))) one

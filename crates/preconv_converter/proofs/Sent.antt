@@ -10,9 +10,9 @@ use Rattle.preconv_converter.specs.declared.reader.Reader.{Reader}
 use Rattle.preconv_converter.specs.declared.reader.Pending.{Pending}
 use Rattle.preconv_converter.specs.declared.reader.Pending.TheVariants.{Nothing, One, Two, Three}
 use Rattle.preconv_converter.specs.Saying.{has_byte, may_go_out, sent, all_sent, bytes_of, text_of}
-use Rattle.preconv_converter.specs.Meeting.{meet, is_raw}
+use Rattle.preconv_converter.specs.Offering.{offer, is_raw}
 use Rattle.preconv_converter.specs.Lines.{passing}
-use Rattle.preconv_converter.specs.Reading.{Told, is_lead, is_tail, is_second, told, behind, then_told, with_half, pending_with, heard_in, heard, stray, strays, pending_heard, fresh, apart, whole, heard_after, read, name_left, ended, finished, fed, first_reader, converted}
+use Rattle.preconv_converter.specs.Reading.{Emitted, is_lead, is_tail, is_second, emitted, preceded, then_emitted, with_half, pending_with, heard_in, heard, stray, strays, pending_heard, fresh, apart, whole, heard_after, read, name_left, ended, finished, fed, first_reader, converted}
 
 GoesOut : Target → ℕ → Type 0
 GoesOut e b = may_go_out e b ≡ true
@@ -37,31 +37,31 @@ all_sent-go e (b ∷ bs) = All-cons (GoesOut e) (sent e b) (all_sent e bs) (sent
 
 -- ---- what comes of bytes goes out
 
-record Shows (e : Target) (t : Told) : Type 0 where
+record Shows (e : Target) (t : Emitted) : Type 0 where
   shown : AllPass (may_go_out e) t.bytes
   same : t.reader.table ≡ e
 
-shows_nothing : (e : Target) (r : Reader) → r.table ≡ e → Shows e (told r [] 0)
+shows_nothing : (e : Target) (r : Reader) → r.table ≡ e → Shows e (emitted r [] 0)
 unfolding GoesOut
 shows_nothing e r p = record { shown = All-nil (GoesOut e); same = p }
 
-Shows-if : {e : Target} (x : Bool) {t u : Told} → Shows e t → Shows e u → Shows e (if x then t else u)
+Shows-if : {e : Target} (x : Bool) {t u : Emitted} → Shows e t → Shows e u → Shows e (if x then t else u)
 Shows-if true p q = p
 Shows-if false p q = q
 
-Shows-behind : (e : Target) (bytes : List ℕ) (n : ℕ) (t : Told) → AllPass (may_go_out e) bytes → Shows e t → Shows e (behind bytes n t)
+Shows-preceded : (e : Target) (bytes : List ℕ) (n : ℕ) (t : Emitted) → AllPass (may_go_out e) bytes → Shows e t → Shows e (preceded bytes n t)
 unfolding GoesOut
-Shows-behind e bytes n t p q = record { shown = All-append (GoesOut e) bytes t.bytes p q.shown; same = q.same }
+Shows-preceded e bytes n t p q = record { shown = All-append (GoesOut e) bytes t.bytes p q.shown; same = q.same }
 
-Shows-then : (e : Target) (t : Told) (next : Reader → Told) → Shows e t → ((r : Reader) → r.table ≡ e → Shows e (next r)) → Shows e (then_told t next)
-Shows-then e t next p q = Shows-behind e t.bytes t.steps (next t.reader) p.shown (q t.reader p.same)
+Shows-then : (e : Target) (t : Emitted) (next : Reader → Emitted) → Shows e t → ((r : Reader) → r.table ≡ e → Shows e (next r)) → Shows e (then_emitted t next)
+Shows-then e t next p q = Shows-preceded e t.bytes t.steps (next t.reader) p.shown (q t.reader p.same)
 
 heard_in-shows : (n : ℕ) (c : Coming) (r : Reader) → Shows r.table (heard_in n c r)
 heard_in-shows zero c r = shows_nothing r.table r refl
 heard_in-shows (suc n) c r =
-    let m = meet c r.half in
+    let m = offer c r.half in
     let e = r.table in
-    Shows-behind e (bytes_of e m.said) 1 (if m.takes then told (with_half m.half r) [] 0 else heard_in n c (with_half m.half r)) (all_sent-go e (text_of e m.said))
+    Shows-preceded e (bytes_of e m.said) 1 (if m.takes then emitted (with_half m.half r) [] 0 else heard_in n c (with_half m.half r)) (all_sent-go e (text_of e m.said))
     (Shows-if m.takes (shows_nothing e (with_half m.half r) refl) (heard_in-shows n c (with_half m.half r)))
 
 heard-shows : (e : Target) (c : Coming) (r : Reader) → r.table ≡ e → Shows e (heard c r)
@@ -74,7 +74,7 @@ strays-show e Nothing r same = shows_nothing e r same
 strays-show e (One a) r same = heard-shows e (Wide a) r same
 strays-show e (Two a b) r same = Shows-then e (stray a r) (λ s. stray b s) (heard-shows e (Wide a) r same) (λ s q. heard-shows e (Wide b) s q)
 strays-show e (Three a b c) r same =
-    Shows-then e (then_told (stray a r) (λ s. stray b s)) (λ s. stray c s)
+    Shows-then e (then_emitted (stray a r) (λ s. stray b s)) (λ s. stray c s)
     (Shows-then e (stray a r) (λ s. stray b s) (heard-shows e (Wide a) r same) (λ s q. heard-shows e (Wide b) s q))
     (λ s q. heard-shows e (Wide c) s q)
 
@@ -100,7 +100,7 @@ heard_after-shows e (Two a b) c r same =
     Shows-if (is_tail c) (Shows-if (nat_lt a 240) (whole-shows e _ r same) (shows_nothing e (pending_with (Three a b c) r) same)) (apart-shows e c r same)
 heard_after-shows e (Three a b c) d r same = Shows-if (is_tail d) (whole-shows e _ r same) (apart-shows e d r same)
 
-passed-shows : (e : Target) (b : ℕ) (r : Reader) → r.table ≡ e → Shows e (told (with_half (passing b r.half) r) (sent r.table b ∷ []) 1)
+passed-shows : (e : Target) (b : ℕ) (r : Reader) → r.table ≡ e → Shows e (emitted (with_half (passing b r.half) r) (sent r.table b ∷ []) 1)
 unfolding GoesOut
 passed-shows e b r same = record {
   shown = (let P : Target → Type 0 = λ x. AllPass (may_go_out e) (sent x b ∷ []) in

@@ -13,15 +13,15 @@ use Rattle.preconv_converter.specs.declared.half.Line.{Line}
 use Rattle.preconv_converter.specs.declared.half.Line.TheVariants as lines
 use Rattle.preconv_converter.specs.declared.half.Mark.TheVariants as marks
 use Rattle.preconv_converter.specs.declared.half.Coming.TheVariants as comings
-use Rattle.preconv_converter.specs.Half.{Met, taken, left, in_text as text_of, without_escape, is_space}
+use Rattle.preconv_converter.specs.Half.{Offered, taken, left, in_text as text_of, without_escape, is_space}
 use Rattle.preconv_converter.specs.Hyphens.{placed, wide_mark}
 use Rattle.preconv_converter.specs.Endings.{keeping, spelling}
 use Rattle.preconv_converter.specs.Faces.{faced}
 use Rattle.preconv_converter.specs.Saying.{bytes_of}
 use Rattle.preconv_converter.specs.Lines.{is_control}
-use Rattle.preconv_converter.specs.Meeting.{meet}
+use Rattle.preconv_converter.specs.Offering.{offer}
 use Rattle.preconv_converter.specs.Runs.{is_kept, is_font}
-use Rattle.preconv_converter.specs.Reading.{told, behind, with_half, heard, heard_in}
+use Rattle.preconv_converter.specs.Reading.{emitted, preceded, with_half, heard, heard_in}
 use Rattle.preconv_converter.specs.Pieces.{Face, face_of, Piece, Same, Looks, SentenceEnd, all_were, all_become}
 use Rattle.preconv_converter.specs.WrittenLines.{is_face, Sign, Byte, Escape, Font, Character, Glyph, is_sign, all_are, begins_text, written_sign, written_signs}
 use Rattle.preconv_converter.proofs.AtOnce.{placed_as}
@@ -62,9 +62,9 @@ font_begun : Spot → Bool
 font_begun (Fonts x h) = in_line x
 font_begun p = false
 
-backslash_takes : (t : Target) (x : Where) (h : Half) (m : Met) → in_line x ≡ true → m ≡ taken says.Nothing (begun_half (line_of_where x) h) → Takes begun t [] (code "\\") m
+backslash_takes : (t : Target) (x : Where) (h : Half) (m : Offered) → in_line x ≡ true → m ≡ taken says.Nothing (begun_half (line_of_where x) h) → Takes begun t [] (code "\\") m
 unfolding begun
-backslash_takes t x h m at met = record { next = Begins x h; there = at; said = says.Nothing; pieces = []; met = met; out = refl; all = refl }
+backslash_takes t x h m at offered = record { next = Begins x h; there = at; said = says.Nothing; pieces = []; offered = offered; out = refl; all = refl }
 
 backslash_hears : (n : ℕ) (t : Target) (f : Flow) (h : Half) → in_line (In f) ≡ true → Hears begun (suc n) t (Flows f h) (code "\\")
 unfolding in_line
@@ -98,7 +98,7 @@ kept_half false (In Faces) b h at = refl
 kept_half x (In (Among place w)) b h at = absurd (let no : false ≡ true = at in cc)
 
 Kept : Where → Half → ℕ → Type 0
-Kept x h b = meet (comings.Byte b) (begun_half (line_of_where x) h) ≡ taken (says.Kept (code "\\" ∷ b ∷ [])) (text_of (without_escape (placed marks.Other (keeping b (begun_half (line_of_where x) h)))))
+Kept x h b = offer (comings.Byte b) (begun_half (line_of_where x) h) ≡ taken (says.Kept (code "\\" ∷ b ∷ [])) (text_of (without_escape (placed marks.Other (keeping b (begun_half (line_of_where x) h)))))
 
 kept_at : (x : Where) (h : Half) (b : ℕ) → in_line x ≡ true → is_kept b ≡ true → Kept x h b
 unfolding in_line Kept
@@ -123,7 +123,7 @@ kept_hears t b is (Begins x h) there =
       there = refl;
       said = says.Kept (code "\\" ∷ b ∷ []);
       pieces = Same (code "\\") ∷ Same b ∷ [];
-      met = kept_at x h b there is ∙ ap (taken (says.Kept (code "\\" ∷ b ∷ []))) (kept_half h.manual x b h there);
+      offered = kept_at x h b there is ∙ ap (taken (says.Kept (code "\\" ∷ b ∷ []))) (kept_half h.manual x b h there);
       out = kept_out t b is;
       all = refl;
     })
@@ -147,17 +147,17 @@ pub by_face : (P : ℕ → Type 0) → P (code "B") → P (code "I") → P (code
 by_face P b i p r one two three four five v c is =
     face_by P b i p r one two three four five v c (is_font c) (c == code "1") (c == code "2") (c == code "3") (c == code "4") (c == code "5") (c == code "V") refl refl refl refl refl refl refl is
 
-letter_met : (x : Where) (h : Half) → in_line x ≡ true → meet (comings.Byte (code "f")) (begun_half (line_of_where x) h) ≡ taken says.Nothing (font_half (line_of_where x) h)
+letter_offered : (x : Where) (h : Half) → in_line x ≡ true → offer (comings.Byte (code "f")) (begun_half (line_of_where x) h) ≡ taken says.Nothing (font_half (line_of_where x) h)
 unfolding in_line
-letter_met First h at = refl
-letter_met (In Text) h at = refl
-letter_met (In Faces) h at = refl
-letter_met (In (Among place w)) h at = absurd (let no : false ≡ true = at in cc)
+letter_offered First h at = refl
+letter_offered (In Text) h at = refl
+letter_offered (In Faces) h at = refl
+letter_offered (In (Among place w)) h at = absurd (let no : false ≡ true = at in cc)
 
 letter_hears : (t : Target) (p : Spot) → begun p ≡ true → Hears font_begun 6 t p (code "f")
 unfolding begun font_begun
 letter_hears t (Begins x h) there =
-    hears_taken font_begun 5 t (Begins x h) (code "f") (record { next = Fonts x h; there = there; said = says.Nothing; pieces = []; met = letter_met x h there; out = refl; all = refl })
+    hears_taken font_begun 5 t (Begins x h) (code "f") (record { next = Fonts x h; there = there; said = says.Nothing; pieces = []; offered = letter_offered x h there; out = refl; all = refl })
 letter_hears t p there = absurd (let no : false ≡ true = there in cc)
 
 named : Where → ℕ → Half → Half
@@ -168,7 +168,7 @@ after (In Text) = Text
 after x = Faces
 
 Named : Where → Half → ℕ → Type 0
-Named x h b = meet (comings.Byte b) (font_half (line_of_where x) h) ≡ taken (says.Font (face_of b)) (open_half (line_in (after x)) (named x b h))
+Named x h b = offer (comings.Byte b) (font_half (line_of_where x) h) ≡ taken (says.Font (face_of b)) (open_half (line_in (after x)) (named x b h))
 
 named_at : (x : Where) (h : Half) (b : ℕ) → in_line x ≡ true → is_face b ≡ true → Named x h b
 unfolding in_line Named named after
@@ -200,7 +200,7 @@ font_hears t b is (Fonts x h) there =
       there = in_text_after x (named x b h);
       said = says.Font (face_of b);
       pieces = Face b ∷ [];
-      met = named_at x h b there is;
+      offered = named_at x h b there is;
       out = font_out t b is;
       all = refl;
     })
@@ -213,25 +213,25 @@ pub record HearsWide (P : Spot → Bool) (n : ℕ) (t : Target) (p : Spot) (c : 
   pub there : P next ≡ true
   pub pieces : List Piece
   pub steps : ℕ
-  pub heard : heard_in n (comings.Wide c) (at t p) ≡ told (at t next) (all_become t pieces) steps
+  pub heard : heard_in n (comings.Wide c) (at t p) ≡ emitted (at t next) (all_become t pieces) steps
   pub all : held p ++ encode_utf8 c ≡ all_were pieces ++ held next
 
-wide_taken : (n : ℕ) (t : Target) (p : Spot) (c : ℕ) (k : Half) → held p ≡ [] → meet (comings.Wide c) (half_of p) ≡ taken (says.Character c) (open_half lines.Text k) → HearsWide in_text (suc n) t p c
-wide_taken n t p c k none met =
+wide_taken : (n : ℕ) (t : Target) (p : Spot) (c : ℕ) (k : Half) → held p ≡ [] → offer (comings.Wide c) (half_of p) ≡ taken (says.Character c) (open_half lines.Text k) → HearsWide in_text (suc n) t p c
+wide_taken n t p c k none offered =
     record {
       next = Flows Text k;
       there = refl;
       pieces = Looks c ∷ [];
       steps = 1;
       heard =
-          ap (λ (m : Met). behind (bytes_of t m.said) 1 (if m.takes then told (with_half m.half (at t p)) [] 0 else heard_in n (comings.Wide c) (with_half m.half (at t p)))) met;
+          ap (λ (m : Offered). preceded (bytes_of t m.said) 1 (if m.takes then emitted (with_half m.half (at t p)) [] 0 else heard_in n (comings.Wide c) (with_half m.half (at t p)))) offered;
       all = ap (λ (xs : List ℕ). xs ++ encode_utf8 c) none ∙ sym (append-nil (encode_utf8 c)) ∙ sym (append-nil (encode_utf8 c ++ []));
     }
 
 pub wide_left : (P : Spot → Bool) (n : ℕ) (t : Target) (p q : Spot) (c : ℕ) (said : Said) (ps : List Piece)
-    → meet (comings.Wide c) (half_of p) ≡ left said (half_of q) → bytes_of t said ≡ all_become t ps → held p ≡ all_were ps ++ held q
+    → offer (comings.Wide c) (half_of p) ≡ left said (half_of q) → bytes_of t said ≡ all_become t ps → held p ≡ all_were ps ++ held q
     → HearsWide P n t q c → HearsWide P (suc n) t p c
-wide_left P n t p q c said ps met out all k =
+wide_left P n t p q c said ps offered out all k =
     let w = comings.Wide c in
     record {
       next = k.next;
@@ -239,10 +239,10 @@ wide_left P n t p q c said ps met out all k =
       pieces = ps ++ k.pieces;
       steps = 1 + k.steps;
       heard =
-          ap (λ (m : Met). behind (bytes_of t m.said) 1 (if m.takes then told (with_half m.half (at t p)) [] 0 else heard_in n w (with_half m.half (at t p)))) met
-          ∙ ap (behind (bytes_of t said) 1) k.heard
-          ∙ ap (λ (xs : List ℕ). told (at t k.next) (xs ++ all_become t k.pieces) (1 + k.steps)) out
-          ∙ ap (λ (xs : List ℕ). told (at t k.next) xs (1 + k.steps)) (sym (all_become-append t ps k.pieces));
+          ap (λ (m : Offered). preceded (bytes_of t m.said) 1 (if m.takes then emitted (with_half m.half (at t p)) [] 0 else heard_in n w (with_half m.half (at t p)))) offered
+          ∙ ap (preceded (bytes_of t said) 1) k.heard
+          ∙ ap (λ (xs : List ℕ). emitted (at t k.next) (xs ++ all_become t k.pieces) (1 + k.steps)) out
+          ∙ ap (λ (xs : List ℕ). emitted (at t k.next) xs (1 + k.steps)) (sym (all_become-append t ps k.pieces));
       all =
           ap (λ (xs : List ℕ). xs ++ encode_utf8 c) all
           ∙ append_assoc (all_were ps) (held q) (encode_utf8 c)
@@ -256,30 +256,30 @@ shows : (x : Bool) (c : ℕ) (l : Line) (h : Half) → x ≡ false
 shows true c l h e = absurd (let no : true ≡ false = e in cc)
 shows false c l h e = ap (taken (says.Character c)) (moved_by h.manual (wide_mark c) lines.Text l h)
 
-wide_met : (x : Where) (c : ℕ) (h : Half) → in_line x ≡ true → meet (comings.Wide c) (open_half (line_of_where x) h) ≡ taken (says.Character c) (open_half lines.Text (placed (wide_mark c) h))
+wide_offered : (x : Where) (c : ℕ) (h : Half) → in_line x ≡ true → offer (comings.Wide c) (open_half (line_of_where x) h) ≡ taken (says.Character c) (open_half lines.Text (placed (wide_mark c) h))
 unfolding in_line
-wide_met First c h at = shows (is_space c && false) c lines.Start h (no_both (is_space c))
-wide_met (In Text) c h at = shows (is_space c && false) c lines.Text h (no_both (is_space c))
-wide_met (In Faces) c h at = shows (is_space c && false) c lines.Fonts h (no_both (is_space c))
-wide_met (In (Among place w)) c h at = absurd (let no : false ≡ true = at in cc)
+wide_offered First c h at = shows (is_space c && false) c lines.Start h (no_both (is_space c))
+wide_offered (In Text) c h at = shows (is_space c && false) c lines.Text h (no_both (is_space c))
+wide_offered (In Faces) c h at = shows (is_space c && false) c lines.Fonts h (no_both (is_space c))
+wide_offered (In (Among place w)) c h at = absurd (let no : false ≡ true = at in cc)
 
 text_wide : (t : Target) (c : ℕ) (p : Spot) → in_text p ≡ true → HearsWide in_text 6 t p c
 unfolding in_line
-text_wide t c (Flows Text h) there = wide_taken 5 t (Flows Text h) c (placed (wide_mark c) h) refl (wide_met (In Text) c h refl)
-text_wide t c (Flows Faces h) there = wide_taken 5 t (Flows Faces h) c (placed (wide_mark c) h) refl (wide_met (In Faces) c h refl)
+text_wide t c (Flows Text h) there = wide_taken 5 t (Flows Text h) c (placed (wide_mark c) h) refl (wide_offered (In Text) c h refl)
+text_wide t c (Flows Faces h) there = wide_taken 5 t (Flows Faces h) c (placed (wide_mark c) h) refl (wide_offered (In Faces) c h refl)
 text_wide t c (Holds Text h) there =
     let k : Half = record h { spelled = [] } in
     wide_left in_text 5 t (Holds Text h) (Flows Text k) c (says.Kept (code "-" ∷ [])) (Same (code "-") ∷ []) refl refl refl
-    (wide_taken 4 t (Flows Text k) c (placed (wide_mark c) k) refl (wide_met (In Text) c k refl))
+    (wide_taken 4 t (Flows Text k) c (placed (wide_mark c) k) refl (wide_offered (In Text) c k refl))
 text_wide t c p there = absurd (let no : false ≡ true = there in cc)
 
 first_wide : (t : Target) (c : ℕ) (p : Spot) → begins p ≡ true → HearsWide in_text 6 t p c
 unfolding in_line
-first_wide t c (Starts h) there = wide_taken 5 t (Starts h) c (placed (wide_mark c) h) refl (wide_met First c h refl)
+first_wide t c (Starts h) there = wide_taken 5 t (Starts h) c (placed (wide_mark c) h) refl (wide_offered First c h refl)
 first_wide t c (Closes h) there =
     let k : Half = record h { spelled = [] } in
     wide_left in_text 5 t (Closes h) (Starts k) c (says.Kept (codes "\\*(.\\n(.u\n")) (SentenceEnd ∷ []) refl refl refl
-    (wide_taken 4 t (Starts k) c (placed (wide_mark c) k) refl (wide_met First c k refl))
+    (wide_taken 4 t (Starts k) c (placed (wide_mark c) k) refl (wide_offered First c k refl))
 first_wide t c p there = absurd (let no : false ≡ true = there in cc)
 
 no_ascii : (c : ℕ) → nat_lt 126 c ≡ true → nat_lt c 127 ≡ false
@@ -308,17 +308,17 @@ pair_begun : Spot → Bool
 pair_begun (Pairs x h) = in_line x
 pair_begun p = false
 
-pair_met : (x : Where) (h : Half) → in_line x ≡ true → meet (comings.Byte (code "(")) (begun_half (line_of_where x) h) ≡ taken says.Nothing (pair_half (line_of_where x) h)
+pair_offered : (x : Where) (h : Half) → in_line x ≡ true → offer (comings.Byte (code "(")) (begun_half (line_of_where x) h) ≡ taken says.Nothing (pair_half (line_of_where x) h)
 unfolding in_line
-pair_met First h at = refl
-pair_met (In Text) h at = refl
-pair_met (In Faces) h at = refl
-pair_met (In (Among place w)) h at = absurd (let no : false ≡ true = at in cc)
+pair_offered First h at = refl
+pair_offered (In Text) h at = refl
+pair_offered (In Faces) h at = refl
+pair_offered (In (Among place w)) h at = absurd (let no : false ≡ true = at in cc)
 
 pair_hears : (t : Target) (p : Spot) → begun p ≡ true → Hears pair_begun 6 t p (code "(")
 unfolding begun pair_begun
 pair_hears t (Begins x h) there =
-    hears_taken pair_begun 5 t (Begins x h) (code "(") (record { next = Pairs x h; there = there; said = says.Nothing; pieces = []; met = pair_met x h there; out = refl; all = refl })
+    hears_taken pair_begun 5 t (Begins x h) (code "(") (record { next = Pairs x h; there = there; said = says.Nothing; pieces = []; offered = pair_offered x h there; out = refl; all = refl })
 pair_hears t p there = absurd (let no : false ≡ true = there in cc)
 
 glyph_text : (t : Target) (a b c : ℕ) → IsGlyph a b c → (p : Spot) → pair_begun p ≡ true → Reads in_text t p (a ∷ b ∷ [])

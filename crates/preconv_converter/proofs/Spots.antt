@@ -16,13 +16,13 @@ use Rattle.preconv_converter.specs.declared.half.Kind.TheVariants as kinds
 use Rattle.preconv_converter.specs.declared.half.Coming.TheVariants as comings
 use Rattle.preconv_converter.specs.declared.reader.Reader.{Reader}
 use Rattle.preconv_converter.specs.declared.reader.Pending.TheVariants as pendings
-use Rattle.preconv_converter.specs.Half.{Met, taken, left}
+use Rattle.preconv_converter.specs.Half.{Offered, taken, left}
 use Rattle.preconv_converter.specs.Saying.{bytes_of, sent}
 use Rattle.preconv_converter.specs.Lines.{passing}
-use Rattle.preconv_converter.specs.Meeting.{meet, is_raw}
-use Rattle.preconv_converter.specs.Reading.{Told, told, behind, then_told, with_half, pending_with, heard_in, heard, is_lead, stray, read, fed}
+use Rattle.preconv_converter.specs.Offering.{offer, is_raw}
+use Rattle.preconv_converter.specs.Reading.{Emitted, emitted, preceded, then_emitted, with_half, pending_with, heard_in, heard, is_lead, stray, read, fed}
 use Rattle.preconv_converter.specs.Pieces.{Piece, was, becomes, all_were, all_become}
-use Rattle.preconv_converter.proofs.Reading.{behind-none, fed-append}
+use Rattle.preconv_converter.proofs.Reading.{preceded-none, fed-append}
 
 -- nothing is half read in a line; a hyphen, or the newline of a sentence that something closed, is held back; after the control
 -- character; in a name
@@ -139,25 +139,25 @@ at t p = record { half = half_of p; pending = pendings.Nothing; table = t }
 
 -- ---- a byte is taken at once
 
-pub record Takes (P : Spot → Bool) (t : Target) (back : List ℕ) (b : ℕ) (m : Met) : Type 0 where
+pub record Takes (P : Spot → Bool) (t : Target) (back : List ℕ) (b : ℕ) (m : Offered) : Type 0 where
   pub next : Spot
   pub there : P next ≡ true
   pub said : Said
   pub pieces : List Piece
-  pub met : m ≡ taken said (half_of next)
+  pub offered : m ≡ taken said (half_of next)
   pub out : bytes_of t said ≡ all_become t pieces
   pub all : back ++ b ∷ [] ≡ all_were pieces ++ held next
 
--- it is met at most so often
+-- it is offered at most so often
 pub record Hears (P : Spot → Bool) (n : ℕ) (t : Target) (p : Spot) (b : ℕ) : Type 0 where
   pub next : Spot
   pub there : P next ≡ true
   pub pieces : List Piece
   pub steps : ℕ
-  pub heard : heard_in n (comings.Byte b) (at t p) ≡ told (at t next) (all_become t pieces) steps
+  pub heard : heard_in n (comings.Byte b) (at t p) ≡ emitted (at t next) (all_become t pieces) steps
   pub all : held p ++ b ∷ [] ≡ all_were pieces ++ held next
 
-pub hears_taken : (P : Spot → Bool) (n : ℕ) (t : Target) (p : Spot) (b : ℕ) → Takes P t (held p) b (meet (comings.Byte b) (half_of p)) → Hears P (suc n) t p b
+pub hears_taken : (P : Spot → Bool) (n : ℕ) (t : Target) (p : Spot) (b : ℕ) → Takes P t (held p) b (offer (comings.Byte b) (half_of p)) → Hears P (suc n) t p b
 hears_taken P n t p b k =
     let c = comings.Byte b in
     record {
@@ -166,8 +166,8 @@ hears_taken P n t p b k =
       pieces = k.pieces;
       steps = 1;
       heard =
-          ap (λ (m : Met). behind (bytes_of t m.said) 1 (if m.takes then told (with_half m.half (at t p)) [] 0 else heard_in n c (with_half m.half (at t p)))) k.met
-          ∙ ap (λ (xs : List ℕ). told (at t k.next) xs 1) (append-nil (bytes_of t k.said) ∙ k.out);
+          ap (λ (m : Offered). preceded (bytes_of t m.said) 1 (if m.takes then emitted (with_half m.half (at t p)) [] 0 else heard_in n c (with_half m.half (at t p)))) k.offered
+          ∙ ap (λ (xs : List ℕ). emitted (at t k.next) xs 1) (append-nil (bytes_of t k.said) ∙ k.out);
       all = k.all;
     }
 
@@ -179,11 +179,11 @@ pub all_were-append : (ps qs : List Piece) → all_were (ps ++ qs) ≡ all_were 
 all_were-append [] qs = refl
 all_were-append (p ∷ ps) qs = ap (λ (xs : List ℕ). was p ++ xs) (all_were-append ps qs) ∙ sym (append_assoc (was p) (all_were ps) (all_were qs))
 
--- what is held goes out, and then it is met again
+-- what is held goes out, and then it is offered again
 pub hears_left : (P : Spot → Bool) (n : ℕ) (t : Target) (p q : Spot) (b : ℕ) (said : Said) (ps : List Piece)
-    → meet (comings.Byte b) (half_of p) ≡ left said (half_of q) → bytes_of t said ≡ all_become t ps → held p ≡ all_were ps ++ held q
+    → offer (comings.Byte b) (half_of p) ≡ left said (half_of q) → bytes_of t said ≡ all_become t ps → held p ≡ all_were ps ++ held q
     → Hears P n t q b → Hears P (suc n) t p b
-hears_left P n t p q b said ps met out all k =
+hears_left P n t p q b said ps offered out all k =
     let c = comings.Byte b in
     record {
       next = k.next;
@@ -191,10 +191,10 @@ hears_left P n t p q b said ps met out all k =
       pieces = ps ++ k.pieces;
       steps = 1 + k.steps;
       heard =
-          ap (λ (m : Met). behind (bytes_of t m.said) 1 (if m.takes then told (with_half m.half (at t p)) [] 0 else heard_in n c (with_half m.half (at t p)))) met
-          ∙ ap (behind (bytes_of t said) 1) k.heard
-          ∙ ap (λ (xs : List ℕ). told (at t k.next) (xs ++ all_become t k.pieces) (1 + k.steps)) out
-          ∙ ap (λ (xs : List ℕ). told (at t k.next) xs (1 + k.steps)) (sym (all_become-append t ps k.pieces));
+          ap (λ (m : Offered). preceded (bytes_of t m.said) 1 (if m.takes then emitted (with_half m.half (at t p)) [] 0 else heard_in n c (with_half m.half (at t p)))) offered
+          ∙ ap (preceded (bytes_of t said) 1) k.heard
+          ∙ ap (λ (xs : List ℕ). emitted (at t k.next) (xs ++ all_become t k.pieces) (1 + k.steps)) out
+          ∙ ap (λ (xs : List ℕ). emitted (at t k.next) xs (1 + k.steps)) (sym (all_become-append t ps k.pieces));
       all =
           ap (λ (xs : List ℕ). xs ++ b ∷ []) all
           ∙ append_assoc (all_were ps) (held q) (b ∷ [])
@@ -205,7 +205,7 @@ hears_left P n t p q b said ps met out all k =
 
 -- something goes out, and then it is taken
 pub hears_twice : (P : Spot → Bool) (n : ℕ) (t : Target) (p q next : Spot) (b : ℕ) (said second : Said) (ps : List Piece) → P next ≡ true
-    → meet (comings.Byte b) (half_of p) ≡ left said (half_of q) → meet (comings.Byte b) (half_of q) ≡ taken second (half_of next)
+    → offer (comings.Byte b) (half_of p) ≡ left said (half_of q) → offer (comings.Byte b) (half_of q) ≡ taken second (half_of next)
     → bytes_of t said ++ bytes_of t second ≡ all_become t ps → held p ++ b ∷ [] ≡ all_were ps ++ held next → Hears P (suc (suc n)) t p b
 hears_twice P n t p q next b said second ps there one two out all =
     let c = comings.Byte b in
@@ -215,10 +215,10 @@ hears_twice P n t p q next b said second ps there one two out all =
       pieces = ps;
       steps = 2;
       heard =
-          ap (λ (m : Met). behind (bytes_of t m.said) 1 (if m.takes then told (with_half m.half (at t p)) [] 0 else heard_in (suc n) c (with_half m.half (at t p)))) one
-          ∙ ap (λ (m : Met). behind (bytes_of t said) 1 (behind (bytes_of t m.said) 1 (if m.takes then told (with_half m.half (at t q)) [] 0 else heard_in n c (with_half m.half (at t q))))) two
-          ∙ ap (λ (xs : List ℕ). told (at t next) (bytes_of t said ++ xs) 2) (append-nil (bytes_of t second))
-          ∙ ap (λ (xs : List ℕ). told (at t next) xs 2) out;
+          ap (λ (m : Offered). preceded (bytes_of t m.said) 1 (if m.takes then emitted (with_half m.half (at t p)) [] 0 else heard_in (suc n) c (with_half m.half (at t p)))) one
+          ∙ ap (λ (m : Offered). preceded (bytes_of t said) 1 (preceded (bytes_of t m.said) 1 (if m.takes then emitted (with_half m.half (at t q)) [] 0 else heard_in n c (with_half m.half (at t q))))) two
+          ∙ ap (λ (xs : List ℕ). emitted (at t next) (bytes_of t said ++ xs) 2) (append-nil (bytes_of t second))
+          ∙ ap (λ (xs : List ℕ). emitted (at t next) xs 2) out;
       all = all;
     }
 
@@ -229,7 +229,7 @@ pub record Reads (P : Spot → Bool) (t : Target) (p : Spot) (bytes : List ℕ) 
   pub there : P next ≡ true
   pub pieces : List Piece
   pub steps : ℕ
-  pub read : fed (at t p) bytes ≡ told (at t next) (all_become t pieces) steps
+  pub read : fed (at t p) bytes ≡ emitted (at t next) (all_become t pieces) steps
   pub all : held p ++ bytes ≡ all_were pieces ++ held next
 
 pub no_raw : (p : Spot) → is_raw (half_of p).line ≡ false
@@ -269,9 +269,9 @@ pub byte_read : (t : Target) (p : Spot) (b : ℕ) → nat_lt b 127 ≡ true → 
 unfolding heard
 byte_read t p b ascii =
     let r = at t p in
-    ap (λ (x : Bool). if x then told (with_half (passing b r.half) r) (sent t b ∷ []) 1 else behind [] 0 (if nat_lt b 127 then heard (comings.Byte b) r else (if is_lead b then told (pending_with (pendings.One b) r) [] 0 else stray b r))) (no_raw p)
-    ∙ ap (λ (x : Bool). behind [] 0 (if x then heard (comings.Byte b) r else (if is_lead b then told (pending_with (pendings.One b) r) [] 0 else stray b r))) ascii
-    ∙ behind-none (heard_in 6 (comings.Byte b) r)
+    ap (λ (x : Bool). if x then emitted (with_half (passing b r.half) r) (sent t b ∷ []) 1 else preceded [] 0 (if nat_lt b 127 then heard (comings.Byte b) r else (if is_lead b then emitted (pending_with (pendings.One b) r) [] 0 else stray b r))) (no_raw p)
+    ∙ ap (λ (x : Bool). preceded [] 0 (if x then heard (comings.Byte b) r else (if is_lead b then emitted (pending_with (pendings.One b) r) [] 0 else stray b r))) ascii
+    ∙ preceded-none (heard_in 6 (comings.Byte b) r)
 
 pub reads_none : (P : Spot → Bool) (t : Target) (p : Spot) → P p ≡ true → Reads P t p []
 reads_none P t p there = record { next = p; there = there; pieces = []; steps = 0; read = refl; all = append-nil (held p) }
@@ -286,9 +286,9 @@ reads_byte P Q t p b bs ascii k more =
       pieces = k.pieces ++ m.pieces;
       steps = k.steps + m.steps;
       read =
-          ap (λ (u : Told). then_told u (λ s. fed s bs)) (byte_read t p b ascii ∙ k.heard)
-          ∙ ap (behind (all_become t k.pieces) k.steps) m.read
-          ∙ ap (λ (xs : List ℕ). told (at t m.next) xs (k.steps + m.steps)) (sym (all_become-append t k.pieces m.pieces));
+          ap (λ (u : Emitted). then_emitted u (λ s. fed s bs)) (byte_read t p b ascii ∙ k.heard)
+          ∙ ap (preceded (all_become t k.pieces) k.steps) m.read
+          ∙ ap (λ (xs : List ℕ). emitted (at t m.next) xs (k.steps + m.steps)) (sym (all_become-append t k.pieces m.pieces));
       all =
           sym (append_assoc (held p) (b ∷ []) bs)
           ∙ ap (λ (xs : List ℕ). xs ++ bs) k.all
@@ -309,9 +309,9 @@ reads_both P Q t p xs ys k more =
       steps = k.steps + m.steps;
       read =
           fed-append (at t p) xs ys
-          ∙ ap (λ (u : Told). then_told u (λ s. fed s ys)) k.read
-          ∙ ap (behind (all_become t k.pieces) k.steps) m.read
-          ∙ ap (λ (zs : List ℕ). told (at t m.next) zs (k.steps + m.steps)) (sym (all_become-append t k.pieces m.pieces));
+          ∙ ap (λ (u : Emitted). then_emitted u (λ s. fed s ys)) k.read
+          ∙ ap (preceded (all_become t k.pieces) k.steps) m.read
+          ∙ ap (λ (zs : List ℕ). emitted (at t m.next) zs (k.steps + m.steps)) (sym (all_become-append t k.pieces m.pieces));
       all =
           sym (append_assoc (held p) xs ys)
           ∙ ap (λ (zs : List ℕ). zs ++ ys) k.all
@@ -323,17 +323,17 @@ reads_both P Q t p xs ys k more =
 
 -- ---- with nothing said
 
-pub named : (t : Target) (p q : Spot) (b : ℕ) → nat_lt b 127 ≡ true → meet (comings.Byte b) (half_of p) ≡ taken says.Nothing (half_of q) → fed (at t p) (b ∷ []) ≡ told (at t q) [] 1
-named t p q b ascii met =
-    ap (λ (u : Told). then_told u (λ s. told s [] 0)) (byte_read t p b ascii ∙ ap (λ (m : Met). behind (bytes_of t m.said) 1 (if m.takes then told (record (at t p) { half = m.half }) [] 0 else heard_in 5 (comings.Byte b) (record (at t p) { half = m.half }))) met)
+pub named : (t : Target) (p q : Spot) (b : ℕ) → nat_lt b 127 ≡ true → offer (comings.Byte b) (half_of p) ≡ taken says.Nothing (half_of q) → fed (at t p) (b ∷ []) ≡ emitted (at t q) [] 1
+named t p q b ascii offered =
+    ap (λ (u : Emitted). then_emitted u (λ s. emitted s [] 0)) (byte_read t p b ascii ∙ ap (λ (m : Offered). preceded (bytes_of t m.said) 1 (if m.takes then emitted (record (at t p) { half = m.half }) [] 0 else heard_in 5 (comings.Byte b) (record (at t p) { half = m.half }))) offered)
 
-pub reads_exact : (P : Spot → Bool) (t : Target) (p q : Spot) (xs ys : List ℕ) (n : ℕ) → fed (at t p) xs ≡ told (at t q) [] n → held p ++ xs ≡ held q → Reads P t q ys → Reads P t p (xs ++ ys)
+pub reads_exact : (P : Spot → Bool) (t : Target) (p q : Spot) (xs ys : List ℕ) (n : ℕ) → fed (at t p) xs ≡ emitted (at t q) [] n → held p ++ xs ≡ held q → Reads P t q ys → Reads P t p (xs ++ ys)
 reads_exact P t p q xs ys n one back m =
     record {
       next = m.next;
       there = m.there;
       pieces = m.pieces;
       steps = n + m.steps;
-      read = fed-append (at t p) xs ys ∙ ap (λ (u : Told). then_told u (λ s. fed s ys)) one ∙ ap (behind [] n) m.read;
+      read = fed-append (at t p) xs ys ∙ ap (λ (u : Emitted). then_emitted u (λ s. fed s ys)) one ∙ ap (preceded [] n) m.read;
       all = sym (append_assoc (held p) xs ys) ∙ ap (λ (zs : List ℕ). zs ++ ys) back ∙ m.all;
     }

@@ -7,28 +7,28 @@ use Rattle.preconv_converter.specs.declared.reader.Reader.{Reader}
 use Rattle.preconv_converter.specs.declared.reader.Pending.{Pending}
 use Rattle.preconv_converter.specs.declared.reader.Pending.TheVariants.{Nothing, One, Two, Three}
 use Rattle.preconv_converter.specs.Saying.{bytes_of, sent}
-use Rattle.preconv_converter.specs.Meeting.{meet, is_raw}
-use Rattle.preconv_converter.specs.Reading.{Told, is_lead, is_tail, is_second, told, behind, then_told, with_half, pending_with, heard_in, heard, stray, strays, pending_heard, fresh, apart, whole, heard_after, read, fed, first_reader}
+use Rattle.preconv_converter.specs.Offering.{offer, is_raw}
+use Rattle.preconv_converter.specs.Reading.{Emitted, is_lead, is_tail, is_second, emitted, preceded, then_emitted, with_half, pending_with, heard_in, heard, stray, strays, pending_heard, fresh, apart, whole, heard_after, read, fed, first_reader}
 use Rattle.preconv_converter.specs.Staged.{steps_said}
 
 -- ---- a character is heard in so many steps at most, and what is pending stays
 
-record Hears (most : ℕ) (p : Pending) (t : Told) : Type 0 where
+record Hears (most : ℕ) (p : Pending) (t : Emitted) : Type 0 where
   quick : t.steps ≤ most
   stays : t.reader.pending ≡ p
 
-Hears-split : {n : ℕ} {p : Pending} (x : Bool) {t u : Told} → Hears n p t → Hears n p u → Hears n p (if x then t else u)
+Hears-split : {n : ℕ} {p : Pending} (x : Bool) {t u : Emitted} → Hears n p t → Hears n p u → Hears n p (if x then t else u)
 Hears-split true a b = a
 Hears-split false a b = b
 
-Hears-step : (bytes : List ℕ) (n : ℕ) (p : Pending) (t : Told) → Hears n p t → Hears (suc n) p (behind bytes 1 t)
+Hears-step : (bytes : List ℕ) (n : ℕ) (p : Pending) (t : Emitted) → Hears n p t → Hears (suc n) p (preceded bytes 1 t)
 Hears-step bytes n p t h = record { quick = (let few = h.quick in omega (arith, few)); stays = h.stays }
 
 heard_in-quick : (n : ℕ) (c : Coming) (r : Reader) → Hears n r.pending (heard_in n c r)
 heard_in-quick zero c r = record { quick = omega arith; stays = refl }
 heard_in-quick (suc n) c r =
-    let m = meet c r.half in
-    let taken : Hears n r.pending (told (with_half m.half r) [] 0) = record { quick = omega arith; stays = refl } in
+    let m = offer c r.half in
+    let taken : Hears n r.pending (emitted (with_half m.half r) [] 0) = record { quick = omega arith; stays = refl } in
     Hears-step (bytes_of r.table m.said) n r.pending _ (Hears-split m.takes taken (heard_in-quick n c (with_half m.half r)))
 
 heard-quick : (c : Coming) (r : Reader) → Hears 6 r.pending (heard c r)
@@ -38,7 +38,7 @@ heard-quick c r = heard_in-quick 6 c r
 pub heard-stays : (c : Coming) (r : Reader) → (heard c r).reader.pending ≡ r.pending
 heard-stays c r = (heard-quick c r).stays
 
-Hears-then : (m n : ℕ) (p : Pending) (t : Told) (next : Reader → Told) → Hears m p t → ((r : Reader) → Hears n r.pending (next r)) → Hears (m + n) p (then_told t next)
+Hears-then : (m n : ℕ) (p : Pending) (t : Emitted) (next : Reader → Emitted) → Hears m p t → ((r : Reader) → Hears n r.pending (next r)) → Hears (m + n) p (then_emitted t next)
 Hears-then m n p t next h more = record {
   quick = (let first = h.quick in let second = (more t.reader).quick in omega (arith, first, second));
   stays = (more t.reader).stays ∙ h.stays;
@@ -56,23 +56,23 @@ strays-quick Nothing r = record { quick = omega arith; stays = refl }
 strays-quick (One a) r = heard-quick (Wide a) r
 strays-quick (Two a b) r = Hears-then 6 6 r.pending (stray a r) (λ s. stray b s) (heard-quick (Wide a) r) (λ s. heard-quick (Wide b) s)
 strays-quick (Three a b c) r =
-    Hears-then 12 6 r.pending (then_told (stray a r) (λ s. stray b s)) (λ s. stray c s)
+    Hears-then 12 6 r.pending (then_emitted (stray a r) (λ s. stray b s)) (λ s. stray c s)
     (Hears-then 6 6 r.pending (stray a r) (λ s. stray b s) (heard-quick (Wide a) r) (λ s. heard-quick (Wide b) s))
     (λ s. heard-quick (Wide c) s)
 
 -- ---- six steps are paid for each byte that comes, and kept for one that is pending
 
-record Pays (n : ℕ) (t : Told) : Type 0 where
+record Pays (n : ℕ) (t : Emitted) : Type 0 where
   enough : t.steps + 6 * count t.reader.pending ≤ n
 
-pays : (n : ℕ) (t : Told) → t.steps + 6 * count t.reader.pending ≤ n → Pays n t
+pays : (n : ℕ) (t : Emitted) → t.steps + 6 * count t.reader.pending ≤ n → Pays n t
 pays n t l = record { enough = l }
 
-Pays-split : {n : ℕ} (x : Bool) {t u : Told} → Pays n t → Pays n u → Pays n (if x then t else u)
+Pays-split : {n : ℕ} (x : Bool) {t u : Emitted} → Pays n t → Pays n u → Pays n (if x then t else u)
 Pays-split true p q = p
 Pays-split false p q = q
 
-Pays-heard : (n : ℕ) (p : Pending) (t : Told) → count p ≡ 0 → Hears n p t → Pays n t
+Pays-heard : (n : ℕ) (p : Pending) (t : Emitted) → count p ≡ 0 → Hears n p t → Pays n t
 Pays-heard n p t none h =
     let few = h.quick in let same : count t.reader.pending ≡ count p = ap count h.stays in pays n t (omega (arith, few, same, none))
 
@@ -80,11 +80,11 @@ fresh-pays : (b : ℕ) (r : Reader) → r.pending ≡ Nothing → Pays 6 (fresh 
 fresh-pays b r nothing =
     let none : count r.pending ≡ 0 = ap count nothing in
     Pays-split (nat_lt b 127) (Pays-heard 6 r.pending (heard (Byte b) r) none (heard-quick (Byte b) r))
-    (Pays-split (is_lead b) (pays 6 (told (pending_with (One b) r) [] 0) (omega arith))
+    (Pays-split (is_lead b) (pays 6 (emitted (pending_with (One b) r) [] 0) (omega arith))
     (Pays-heard 6 r.pending (stray b r) none (heard-quick (Wide b) r)))
 
 -- a byte is paid for, and so is what was pending
-abbrev Paid : Reader → Told → Type 0
+abbrev Paid : Reader → Emitted → Type 0
 Paid r t = Pays (6 * count r.pending + 6) t
 
 apart-pays : (b : ℕ) (r : Reader) → Paid r (apart b r)
@@ -103,8 +103,8 @@ whole-pays code r =
     pays (6 * count r.pending + 6) (whole code r) (omega (arith, few, none))
 
 -- one more is pending
-kept-pays : (p : Pending) (r : Reader) → count p ≤ count r.pending + 1 → Paid r (told (pending_with p r) [] 0)
-kept-pays p r l = pays (6 * count r.pending + 6) (told (pending_with p r) [] 0) (omega (arith, l))
+kept-pays : (p : Pending) (r : Reader) → count p ≤ count r.pending + 1 → Paid r (emitted (pending_with p r) [] 0)
+kept-pays p r l = pays (6 * count r.pending + 6) (emitted (pending_with p r) [] 0) (omega (arith, l))
 
 heard_after-pays : (p : Pending) (b : ℕ) (r : Reader) → r.pending ≡ p → Paid r (heard_after p b r)
 heard_after-pays Nothing b r e = apart-pays b r
@@ -117,7 +117,7 @@ heard_after-pays (Two a b) c r e =
 heard_after-pays (Three a b c) d r e = Pays-split (is_tail d) (whole-pays _ r) (apart-pays d r)
 
 read-pays : (b : ℕ) (r : Reader) → Paid r (read b r)
-read-pays b r = Pays-split (is_raw r.half.line) (pays (6 * count r.pending + 6) (told _ (sent r.table b ∷ []) 1) (omega arith)) (heard_after-pays r.pending b r refl)
+read-pays b r = Pays-split (is_raw r.half.line) (pays (6 * count r.pending + 6) (emitted _ (sent r.table b ∷ []) 1) (omega arith)) (heard_after-pays r.pending b r refl)
 
 -- ---- many bytes
 

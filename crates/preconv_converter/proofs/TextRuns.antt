@@ -34,22 +34,22 @@ run_stops a [] (suc n) e = refl
 run_stops a (b ∷ bs) zero e = ap (λ (x : Bool). if x then suc (run_after b bs) else 0) (e (omega arith))
 run_stops a (b ∷ bs) (suc n) e = run_stops b bs n (λ below. e (omega arith))
 
-front_by : (x : Bool) (a b : ℕ) (bs : List ℕ) (k : ℕ) → goes_on_text b ≡ x → run_after b bs ≡ k + run_after (get_or (b ∷ bs) k 0) (drop k bs)
+prefix_by : (x : Bool) (a b : ℕ) (bs : List ℕ) (k : ℕ) → goes_on_text b ≡ x → run_after b bs ≡ k + run_after (get_or (b ∷ bs) k 0) (drop k bs)
     → run_after a (b ∷ bs) ≡ cond x (1 + k) 0 + run_after (get_or (a ∷ b ∷ bs) (cond x (1 + k) 0) 0) (drop (cond x (1 + k) 0) (b ∷ bs))
-front_by true a b bs k e more =
+prefix_by true a b bs k e more =
     let P : ℕ → ℕ = λ j. j + run_after (get_or (a ∷ b ∷ bs) j 0) (drop j (b ∷ bs)) in
     let on : 1 + k ≡ suc k = omega arith in
     let first : run_after a (b ∷ bs) ≡ suc (run_after b bs) =
     ap (λ (x : Bool). if x || (may_close b && not (is_stop a)) then suc (run_after b bs) else 0) e in
     let rest : suc (k + run_after (get_or (b ∷ bs) k 0) (drop k bs)) ≡ suc k + run_after (get_or (b ∷ bs) k 0) (drop k bs) = omega arith in
     first ∙ ap suc more ∙ rest ∙ sym (ap P on)
-front_by false a b bs k e more = sym (zero-add (run_after a (b ∷ bs)))
+prefix_by false a b bs k e more = sym (zero-add (run_after a (b ∷ bs)))
 
 -- those come first that go on whatever stands before them
-pub run_front : (a : ℕ) (bs : List ℕ)
+pub run_prefix : (a : ℕ) (bs : List ℕ)
     → run_after a bs ≡ prefix_len goes_on_text bs + run_after (get_or (a ∷ bs) (prefix_len goes_on_text bs) 0) (drop (prefix_len goes_on_text bs) bs)
-run_front a [] = refl
-run_front a (b ∷ bs) = front_by (goes_on_text b) a b bs (prefix_len goes_on_text bs) refl (run_front b bs)
+run_prefix a [] = refl
+run_prefix a (b ∷ bs) = prefix_by (goes_on_text b) a b bs (prefix_len goes_on_text bs) refl (run_prefix b bs)
 
 -- one more goes on, and some after it
 pub run_on : (a : ℕ) (bs : List ℕ) (n k : ℕ) → n < length bs → goes_on_after (get_or (a ∷ bs) n 0) (get_or bs n 0) ≡ true
@@ -62,7 +62,7 @@ run_on a bs n k below on is =
     let first : run_after (get_or (a ∷ bs) n 0) (drop n bs) ≡ suc (run_after b rest) =
     ap (run_after (get_or (a ∷ bs) n 0)) here ∙ ap (λ (x : Bool). if x then suc (run_after b rest) else 0) on in
     let F : ℕ → Type 0 = λ j. run_after b rest ≡ j + run_after (get_or (b ∷ rest) j 0) (drop j rest) in
-    let front : run_after b rest ≡ k + run_after (get_or (b ∷ rest) k 0) (drop k rest) = subst F (sym is) (run_front b rest) in
+    let prefix : run_after b rest ≡ k + run_after (get_or (b ∷ rest) k 0) (drop k rest) = subst F (sym is) (run_prefix b rest) in
     let last : get_or (b ∷ rest) k 0 ≡ get_or bs (n + k) 0 = ap (λ (xs : List ℕ). get_or xs k 0) (sym here) ∙ get_or-drop n bs k 0 in
     let at : n + (1 + k) ≡ suc (n + k) = omega arith in
     let place : n + 1 + k ≡ n + (1 + k) = omega arith in
@@ -71,4 +71,4 @@ run_on a bs n k below on is =
     ap (λ (x : ℕ). run_after x (drop k rest)) (last ∙ sym (ap (λ (j : ℕ). get_or (a ∷ bs) j 0) at))
     ∙ ap (run_after (get_or (a ∷ bs) (n + (1 + k)) 0)) left in
     let sum : suc (k + run_after (get_or (a ∷ bs) (n + (1 + k)) 0) (drop (n + (1 + k)) bs)) ≡ 1 + k + run_after (get_or (a ∷ bs) (n + (1 + k)) 0) (drop (n + (1 + k)) bs) = omega arith in
-    first ∙ ap suc front ∙ ap (λ (x : ℕ). suc (k + x)) tail ∙ sum
+    first ∙ ap suc prefix ∙ ap (λ (x : ℕ). suc (k + x)) tail ∙ sum

@@ -7,9 +7,9 @@ use Rattle.preconv_converter.specs.declared.half.Line.{Line}
 use Rattle.preconv_converter.specs.declared.half.Line.TheVariants as lines
 use Rattle.preconv_converter.specs.declared.reader.Reader.{Reader}
 use Rattle.preconv_converter.specs.Saying.{sent}
-use Rattle.preconv_converter.specs.Lines.{behind_ignored, one_dot_more, no_dot, line_passed, passing}
-use Rattle.preconv_converter.specs.Meeting.{is_raw}
-use Rattle.preconv_converter.specs.Reading.{told, with_half, heard_byte, read, fed}
+use Rattle.preconv_converter.specs.Lines.{after_ignored, one_dot_more, no_dot, line_passed, passing}
+use Rattle.preconv_converter.specs.Offering.{is_raw}
+use Rattle.preconv_converter.specs.Reading.{emitted, with_half, heard_byte, read, fed}
 use Rattle.preconv_converter.specs.Unread.{is_in_line, begins_with_dots, CommentsAreUnread, IgnoredLinesAreUnread}
 use Rattle.preconv_converter.proofs.Plain.{and-first, and-second, is_not}
 
@@ -26,7 +26,7 @@ passes : (b : ℕ) (line : Line) (r : Reader) → is_raw line ≡ true → (read
 unfolding at
 passes b line r raw =
     let s = at line r in
-    ap (λ (x : Bool). (if x then told (with_half (passing b s.half) s) (sent s.table b ∷ []) 1 else heard_byte b s).reader) raw
+    ap (λ (x : Bool). (if x then emitted (with_half (passing b s.half) s) (sent s.table b ∷ []) 1 else heard_byte b s).reader) raw
 
 -- ---- comments
 
@@ -50,7 +50,7 @@ comments-unread r text e p =
 
 -- a byte that is no newline, a dot or not
 ignored_by : (x y : Bool) (d : Dots) (r : Reader) → x ≡ false
-    → at (if x then behind_ignored d else (if y then lines.Ignored (one_dot_more d) else lines.Ignored (no_dot d))) r
+    → at (if x then after_ignored d else (if y then lines.Ignored (one_dot_more d) else lines.Ignored (no_dot d))) r
     ≡ at (lines.Ignored (if y then one_dot_more d else no_dot d)) r
 ignored_by true y d r p = absurd (let no : true ≡ false = p in cc)
 ignored_by false true d r p = refl

@@ -5,9 +5,9 @@ use Rattle.std.proofs.lemmas.Bool.Decides.{nat_tests}
 use Rattle.preconv_converter.specs.declared.half.Coming.TheVariants.{Wide}
 use Rattle.preconv_converter.specs.declared.reader.Pending.TheVariants.{Nothing, One, Two, Three}
 use Rattle.preconv_converter.specs.declared.reader.Reader.{Reader}
-use Rattle.preconv_converter.specs.Meeting.{is_raw}
+use Rattle.preconv_converter.specs.Offering.{is_raw}
 use Rattle.preconv_converter.specs.Numbers.{is_within}
-use Rattle.preconv_converter.specs.Reading.{Takes, Told, apart, fed, heard, is_second, is_tail, is_three, is_two, pending_with, three_code, told, two_code, whole}
+use Rattle.preconv_converter.specs.Reading.{Takes, Emitted, apart, fed, heard, is_second, is_tail, is_three, is_two, pending_with, three_code, emitted, two_code, whole}
 use Rattle.preconv_converter.proofs.Characters.{cooked_read, last, lead, silent}
 use Rattle.preconv_converter.proofs.Plain.{and-first, and-second, none_heard}
 
@@ -34,9 +34,9 @@ two_fed a b r two cooked none =
     silent a r s (b ∷ []) (lead a r low (omega (arith, high)) cooked none)
     ∙ last b s (heard (Wide (two_code a b)) r)
     (cooked_read b s cooked
-    ∙ ap (λ (x : Bool). if x then (if nat_lt a 224 then whole (two_code a b) s else told (pending_with (Two a b) s) [] 0) else apart b s)
+    ∙ ap (λ (x : Bool). if x then (if nat_lt a 224 then whole (two_code a b) s else emitted (pending_with (Two a b) s) [] 0) else apart b s)
     (tail_is_second a b (omega (arith, high)) (and-second (is_within 194 223 a) (is_tail b) two))
-    ∙ ap (λ (x : Bool). if x then whole (two_code a b) s else told (pending_with (Two a b) s) [] 0) (lt-ltb a 224 (omega (arith, high)))
+    ∙ ap (λ (x : Bool). if x then whole (two_code a b) s else emitted (pending_with (Two a b) s) [] 0) (lt-ltb a 224 (omega (arith, high)))
     ∙ ap (λ (u : Reader). heard (Wide (two_code a b)) u) (none_heard r.pending r none refl))
 
 three_fed : (a b d : ℕ) (r : Reader) → is_three a b d ≡ true → is_raw r.half.line ≡ false → r.pending ≡ Nothing → fed r (a ∷ b ∷ d ∷ []) ≡ heard (Wide (three_code a b d)) r
@@ -50,35 +50,35 @@ three_fed a b d r three cooked none =
     silent a r s (b ∷ d ∷ []) (lead a r (omega (arith, low)) (omega (arith, high)) cooked none)
     ∙ silent b s u (d ∷ [])
     (cooked_read b s cooked
-    ∙ ap (λ (x : Bool). if x then (if nat_lt a 224 then whole (two_code a b) s else told (pending_with (Two a b) s) [] 0) else apart b s)
+    ∙ ap (λ (x : Bool). if x then (if nat_lt a 224 then whole (two_code a b) s else emitted (pending_with (Two a b) s) [] 0) else apart b s)
     (and-second (is_within 224 239 a) (is_second a b) both)
-    ∙ ap (λ (x : Bool). if x then whole (two_code a b) s else told (pending_with (Two a b) s) [] 0) (le-ltb a 224 low))
+    ∙ ap (λ (x : Bool). if x then whole (two_code a b) s else emitted (pending_with (Two a b) s) [] 0) (le-ltb a 224 low))
     ∙ last d u (heard (Wide (three_code a b d)) r)
     (cooked_read d u cooked
-    ∙ ap (λ (x : Bool). if x then (if nat_lt a 240 then whole (three_code a b d) u else told (pending_with (Three a b d) u) [] 0) else apart d u)
+    ∙ ap (λ (x : Bool). if x then (if nat_lt a 240 then whole (three_code a b d) u else emitted (pending_with (Three a b d) u) [] 0) else apart d u)
     (and-second (is_within 224 239 a && is_second a b) (is_tail d) three)
-    ∙ ap (λ (x : Bool). if x then whole (three_code a b d) u else told (pending_with (Three a b d) u) [] 0) (lt-ltb a 240 (omega (arith, high)))
+    ∙ ap (λ (x : Bool). if x then whole (three_code a b d) u else emitted (pending_with (Three a b d) u) [] 0) (lt-ltb a 240 (omega (arith, high)))
     ∙ ap (λ (v : Reader). heard (Wide (three_code a b d)) v) (none_heard r.pending r none refl))
 
 -- ---- the first of some bytes
 
-front_two : (bs : List ℕ) → 2 ≤ length bs → take 2 bs ≡ get_or bs 0 0 ∷ get_or bs 1 0 ∷ []
-front_two [] l = absurd (omega arith)
-front_two (a ∷ []) l = absurd (omega arith)
-front_two (a ∷ b ∷ bs) l = refl
+prefix_two : (bs : List ℕ) → 2 ≤ length bs → take 2 bs ≡ get_or bs 0 0 ∷ get_or bs 1 0 ∷ []
+prefix_two [] l = absurd (omega arith)
+prefix_two (a ∷ []) l = absurd (omega arith)
+prefix_two (a ∷ b ∷ bs) l = refl
 
-front_three : (bs : List ℕ) → 3 ≤ length bs → take 3 bs ≡ get_or bs 0 0 ∷ get_or bs 1 0 ∷ get_or bs 2 0 ∷ []
-front_three [] l = absurd (omega arith)
-front_three (a ∷ []) l = absurd (omega arith)
-front_three (a ∷ b ∷ []) l = absurd (omega arith)
-front_three (a ∷ b ∷ c ∷ bs) l = refl
+prefix_three : (bs : List ℕ) → 3 ≤ length bs → take 3 bs ≡ get_or bs 0 0 ∷ get_or bs 1 0 ∷ get_or bs 2 0 ∷ []
+prefix_three [] l = absurd (omega arith)
+prefix_three (a ∷ []) l = absurd (omega arith)
+prefix_three (a ∷ b ∷ []) l = absurd (omega arith)
+prefix_three (a ∷ b ∷ c ∷ bs) l = refl
 
-taken_so : (n : ℕ) (bs : List ℕ) (r s : Reader) (p left : List ℕ) (steps : ℕ) (t : Told) → fed r (take n bs) ≡ t
+taken_so : (n : ℕ) (bs : List ℕ) (r s : Reader) (p left : List ℕ) (steps : ℕ) (t : Emitted) → fed r (take n bs) ≡ t
     → s ≡ t.reader → left ≡ p ++ t.bytes → steps ≡ t.steps → Takes n bs r s p left steps
 taken_so n bs r s p left steps t e reader out made = record {
-  reader = reader ∙ sym (ap (λ (x : Told). x.reader) e);
-  out = out ∙ ap (λ (x : Told). p ++ x.bytes) (sym e);
-  made = made ∙ sym (ap (λ (x : Told). x.steps) e);
+  reader = reader ∙ sym (ap (λ (x : Emitted). x.reader) e);
+  out = out ∙ ap (λ (x : Emitted). p ++ x.bytes) (sym e);
+  made = made ∙ sym (ap (λ (x : Emitted). x.steps) e);
 }
 
 pub Takes-two : (bs : List ℕ) (r s : Reader) (p left : List ℕ) (steps : ℕ) → 2 ≤ length bs → r.pending ≡ Nothing → is_raw r.half.line ≡ false
@@ -88,7 +88,7 @@ pub Takes-two : (bs : List ℕ) (r s : Reader) (p left : List ℕ) (steps : ℕ)
 Takes-two bs r s p left steps l none cooked two reader out made =
     let a = get_or bs 0 0 in
     let b = get_or bs 1 0 in
-    taken_so 2 bs r s p left steps (heard (Wide (two_code a b)) r) (ap (fed r) (front_two bs l) ∙ two_fed a b r two cooked none) reader out made
+    taken_so 2 bs r s p left steps (heard (Wide (two_code a b)) r) (ap (fed r) (prefix_two bs l) ∙ two_fed a b r two cooked none) reader out made
 
 pub Takes-three : (bs : List ℕ) (r s : Reader) (p left : List ℕ) (steps : ℕ) → 3 ≤ length bs → r.pending ≡ Nothing → is_raw r.half.line ≡ false
     → is_three (get_or bs 0 0) (get_or bs 1 0) (get_or bs 2 0) ≡ true
@@ -99,4 +99,4 @@ Takes-three bs r s p left steps l none cooked three reader out made =
     let a = get_or bs 0 0 in
     let b = get_or bs 1 0 in
     let d = get_or bs 2 0 in
-    taken_so 3 bs r s p left steps (heard (Wide (three_code a b d)) r) (ap (fed r) (front_three bs l) ∙ three_fed a b d r three cooked none) reader out made
+    taken_so 3 bs r s p left steps (heard (Wide (three_code a b d)) r) (ap (fed r) (prefix_three bs l) ∙ three_fed a b d r three cooked none) reader out made

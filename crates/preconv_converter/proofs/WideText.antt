@@ -13,8 +13,8 @@ use Rattle.preconv_converter.specs.declared.reader.Reader.{Reader}
 use Rattle.preconv_converter.specs.Half.{character_said, taken}
 use Rattle.preconv_converter.specs.Hyphens.{followed, placed, wide_mark}
 use Rattle.preconv_converter.specs.Lines.{wide_at}
-use Rattle.preconv_converter.specs.Meeting.{meet, wide_by}
-use Rattle.preconv_converter.specs.Reading.{heard, told, with_half}
+use Rattle.preconv_converter.specs.Offering.{offer, wide_by}
+use Rattle.preconv_converter.specs.Reading.{heard, emitted, with_half}
 use Rattle.preconv_converter.specs.Saying.{bytes_of}
 use Rattle.preconv_converter.proofs.Hearing.{heard_taken}
 
@@ -29,8 +29,8 @@ never false a b = refl
 text_said : (c : ℕ) → character_said Text c ≡ Character c
 text_said c = never _ _ _
 
-pub wide_met : (c : ℕ) (h : Half) → h.escape ≡ Plain → h.line ≡ Text → taken (Character c) (placed (wide_mark c) h) ≡ meet (Wide c) h
-wide_met c h escape line =
+pub wide_offered : (c : ℕ) (h : Half) → h.escape ≡ Plain → h.line ≡ Text → taken (Character c) (placed (wide_mark c) h) ≡ offer (Wide c) h
+wide_offered c h escape line =
     let k : Half = record (placed (wide_mark c) h) { line = Text } in
     sym (ap (λ (e : Escape). wide_by e c h) escape
     ∙ ap (λ (l : Line). wide_at l c h) line
@@ -38,8 +38,8 @@ wide_met c h escape line =
     ∙ ap (λ (s : Said). taken s k) (text_said c)
     ∙ ap (λ (j : Half). taken (Character c) j) (with_line h.manual (followed (wide_mark c) h.before) h line))
 
-pub wide_heard : (c : ℕ) (r : Reader) (h : Half) → taken (Character c) h ≡ meet (Wide c) r.half → heard (Wide c) r ≡ told (with_half h r) (bytes_of r.table (Character c)) 1
+pub wide_heard : (c : ℕ) (r : Reader) (h : Half) → taken (Character c) h ≡ offer (Wide c) r.half → heard (Wide c) r ≡ emitted (with_half h r) (bytes_of r.table (Character c)) 1
 unfolding heard
 wide_heard c r h e =
     heard_taken 6 (Wide c) r h (record { said = Character c; takes = true }) e (omega arith) refl
-    ∙ ap (λ (bytes : List ℕ). told (with_half h r) bytes 1) (append-nil (bytes_of r.table (Character c)))
+    ∙ ap (λ (bytes : List ℕ). emitted (with_half h r) bytes 1) (append-nil (bytes_of r.table (Character c)))

@@ -9,21 +9,21 @@ use Rattle.preconv_converter.specs.declared.half.Line.TheVariants as lines
 use Rattle.preconv_converter.specs.declared.half.Mark.TheVariants as marks
 use Rattle.preconv_converter.specs.declared.half.Coming.TheVariants as comings
 use Rattle.preconv_converter.specs.declared.words.Words.{Words}
-use Rattle.preconv_converter.specs.declared.words.Told.{Told as WordsTold}
+use Rattle.preconv_converter.specs.declared.words.Emitted.{Emitted as WordsEmitted}
 use Rattle.preconv_converter.specs.declared.words.Place.{Place}
 use Rattle.preconv_converter.specs.declared.words.Place.TheVariants as places
 use Rattle.preconv_converter.specs.declared.words.Class.TheVariants.{Space, Quote as QuoteClass, Other}
-use Rattle.preconv_converter.specs.Half.{Met, taken, in_text as text_of, without_escape, is_space}
+use Rattle.preconv_converter.specs.Half.{Offered, taken, in_text as text_of, without_escape, is_space}
 use Rattle.preconv_converter.specs.Hyphens.{placed, wide_mark}
 use Rattle.preconv_converter.specs.Endings.{keeping, spelling}
 use Rattle.preconv_converter.specs.Faces.{faced}
 use Rattle.preconv_converter.specs.Letters.{word_made}
-use Rattle.preconv_converter.specs.Words.{begins_word, is_ninth, class_of, words_at, met_at, met_words}
+use Rattle.preconv_converter.specs.Words.{begins_word, is_ninth, class_of, words_at, offered_at, offered_words}
 use Rattle.preconv_converter.specs.Saying.{bytes_of}
-use Rattle.preconv_converter.specs.Lines.{as_met}
-use Rattle.preconv_converter.specs.Meeting.{meet}
+use Rattle.preconv_converter.specs.Lines.{as_offered}
+use Rattle.preconv_converter.specs.Offering.{offer}
 use Rattle.preconv_converter.specs.Runs.{is_kept}
-use Rattle.preconv_converter.specs.Reading.{told, behind, with_half, heard_in}
+use Rattle.preconv_converter.specs.Reading.{emitted, preceded, with_half, heard_in}
 use Rattle.preconv_converter.specs.Pieces.{Face, face_of, Same, Looks, all_were}
 use Rattle.preconv_converter.specs.WrittenLines.{is_face, is_text, Sign, Byte, Escape, Font, Character, Glyph, is_sign, all_are, written_sign, written_signs, Word, Bare, Quoted, is_quotable, is_bare, is_word, are_words, written_word, written_words}
 use Rattle.preconv_converter.proofs.AtOnce.{placed_as}
@@ -54,13 +54,13 @@ begun_quoted p = false
 
 backslash_hears : (P : Spot → Bool) (n : ℕ) (t : Target) (place : Place) (w : Words) (h : Half) → P (Begins (In (Among place w)) h) ≡ true → Hears P (suc n) t (Flows (Among place w) h) (code "\\")
 backslash_hears P n t place w h there =
-    hears_taken P n t (Flows (Among place w) h) (code "\\") (record { next = Begins (In (Among place w)) h; there = there; said = says.Nothing; pieces = []; met = refl; out = refl; all = refl })
+    hears_taken P n t (Flows (Among place w) h) (code "\\") (record { next = Begins (In (Among place w)) h; there = there; said = says.Nothing; pieces = []; offered = refl; out = refl; all = refl })
 
 between_backslash : (t : Target) (p : Spot) → between p ≡ true → Hears to_begin 6 t p (code "\\")
 unfolding to_begin
 between_backslash t (Flows (Among places.Between w) h) there = backslash_hears to_begin 5 t places.Between w h there
 between_backslash t (Turns w h) there =
-    hears_taken to_begin 5 t (Turns w h) (code "\\") (record { next = TurnBegins w h; there = there; said = says.Nothing; pieces = []; met = refl; out = refl; all = refl })
+    hears_taken to_begin 5 t (Turns w h) (code "\\") (record { next = TurnBegins w h; there = there; said = says.Nothing; pieces = []; offered = refl; out = refl; all = refl })
 between_backslash t p there = absurd (let no : false ≡ true = there in cc)
 
 inside_backslash : (t : Target) (p : Spot) → inside p ≡ true → Hears begun_inside 6 t p (code "\\")
@@ -85,18 +85,18 @@ record IsLetter (b : ℕ) : Type 0 where
   quote : (b == code "\"") ≡ false
   note : (b == code "#") ≡ false
 
-waits_met : (b : ℕ) (v : Words) (h : Half) → IsLetter b → begins_word v ≡ true → meet (comings.Byte b) (begun_half (lines.Words v) h) ≡ word_made (met_words Other says.Nothing v) (begun_half (lines.Words v) h)
-waits_met b v h is first = rw (is.newline, is.backslash, is.quote, is.note, first) refl
+waits_offered : (b : ℕ) (v : Words) (h : Half) → IsLetter b → begins_word v ≡ true → offer (comings.Byte b) (begun_half (lines.Words v) h) ≡ word_made (offered_words Other says.Nothing v) (begun_half (lines.Words v) h)
+waits_offered b v h is first = rw (is.newline, is.backslash, is.quote, is.note, first) refl
 
 word_begins : (P : Spot → Bool) (n : ℕ) (t : Target) (b : ℕ) (p : Spot) (w : Words) (h : Half) (before : List ℕ) → half_of p ≡ begun_half (lines.Words (words_at places.Between w)) h → IsLetter b
     → (q : Spot) → Begun q w → held p ≡ held q ++ code "\\" ∷ [] → ((v : Words) → Hears P n t (Begins (In (Among places.Inside v)) h) b) → Hears P (suc (suc n)) t p b
 word_begins P n t b p w h before there is q m back more =
     hears_left P (suc n) t p (Begins (In (Among places.Begun m.next)) h) b (m.said t) (m.pieces t)
-    (ap (meet (comings.Byte b)) there ∙ waits_met b (words_at places.Between w) h is refl
-    ∙ ap (λ (told : WordsTold). word_made told (begun_half (lines.Words (words_at places.Between w)) h)) (m.is t))
+    (ap (offer (comings.Byte b)) there ∙ waits_offered b (words_at places.Between w) h is refl
+    ∙ ap (λ (emitted : WordsEmitted). word_made emitted (begun_half (lines.Words (words_at places.Between w)) h)) (m.is t))
     (m.out t) (back ∙ ap (λ (xs : List ℕ). xs ++ code "\\" ∷ []) (m.all t))
     (hears_left P n t (Begins (In (Among places.Begun m.next)) h) (Begins (In (Among places.Inside m.next)) h) b says.Nothing []
-    (waits_met b (words_at places.Begun m.next) h is refl) refl refl (more m.next))
+    (waits_offered b (words_at places.Begun m.next) h is refl) refl refl (more m.next))
 
 begin_letter : (P : Spot → Bool) (n : ℕ) (t : Target) (b : ℕ) → IsLetter b → ((v : Words) (k : Half) → Hears P n t (Begins (In (Among places.Inside v)) k) b) → (p : Spot) → to_begin p ≡ true → Hears P (suc (suc n)) t p b
 unfolding to_begin
@@ -111,7 +111,7 @@ quoted_letter : (P : Spot → Bool) (n : ℕ) (t : Target) (b : ℕ) → IsLette
 unfolding begun_quoted
 quoted_letter P n t b is less more (Begins (In (Among places.Quoted w)) h) there = more w h
 quoted_letter P n t b is less more (Begins (In (Among places.Opened w)) h) there =
-    hears_left P n t (Begins (In (Among places.Opened w)) h) (Begins (In (Among places.Quoted w)) h) b says.Nothing [] (waits_met b (words_at places.Opened w) h is refl) refl refl (less w h)
+    hears_left P n t (Begins (In (Among places.Opened w)) h) (Begins (In (Among places.Quoted w)) h) b says.Nothing [] (waits_offered b (words_at places.Opened w) h is refl) refl refl (less w h)
 quoted_letter P n t b is less more p there = absurd (let no : false ≡ true = there in cc)
 
 -- ---- escapes in a word
@@ -123,7 +123,7 @@ flowing place = false
 
 Kept : Place → Words → Half → ℕ → Type 0
 Kept place w h b =
-    meet (comings.Byte b) (begun_half (lines.Words (words_at place w)) h)
+    offer (comings.Byte b) (begun_half (lines.Words (words_at place w)) h)
     ≡ taken (says.Kept (code "\\" ∷ b ∷ [])) (text_of (without_escape (placed marks.Other (keeping b (begun_half (lines.Words (words_at place w)) h)))))
 
 kept_at : (place : Place) (w : Words) (h : Half) (b : ℕ) → flowing place ≡ true → is_kept b ≡ true → Kept place w h b
@@ -155,7 +155,7 @@ kept_hears P n t b place w h there at is =
       there = there next;
       said = says.Kept (code "\\" ∷ b ∷ []);
       pieces = Same (code "\\") ∷ Same b ∷ [];
-      met = kept_at place w h b at is ∙ ap (taken (says.Kept (code "\\" ∷ b ∷ []))) (kept_half h.manual place w b h);
+      offered = kept_at place w h b at is ∙ ap (taken (says.Kept (code "\\" ∷ b ∷ []))) (kept_half h.manual place w b h);
       out = kept_out t b is;
       all = refl;
     })
@@ -173,21 +173,21 @@ font_quoted p = false
 letter_is : IsLetter (code "f")
 letter_is = record { newline = refl; backslash = refl; quote = refl; note = refl }
 
-letter_met : (place : Place) (w : Words) (h : Half) → flowing place ≡ true → meet (comings.Byte (code "f")) (begun_half (lines.Words (words_at place w)) h) ≡ taken says.Nothing (font_half (lines.Words (words_at place w)) h)
+letter_offered : (place : Place) (w : Words) (h : Half) → flowing place ≡ true → offer (comings.Byte (code "f")) (begun_half (lines.Words (words_at place w)) h) ≡ taken says.Nothing (font_half (lines.Words (words_at place w)) h)
 unfolding flowing
-letter_met places.Inside w h at = refl
-letter_met places.Quoted w h at = refl
-letter_met place w h at = absurd (let no : false ≡ true = at in cc)
+letter_offered places.Inside w h at = refl
+letter_offered places.Quoted w h at = refl
+letter_offered place w h at = absurd (let no : false ≡ true = at in cc)
 
 letter_hears : (P : Spot → Bool) (n : ℕ) (t : Target) (place : Place) (w : Words) (h : Half) → P (Fonts (In (Among place w)) h) ≡ true → flowing place ≡ true → Hears P (suc n) t (Begins (In (Among place w)) h) (code "f")
 letter_hears P n t place w h there at =
-    hears_taken P n t (Begins (In (Among place w)) h) (code "f") (record { next = Fonts (In (Among place w)) h; there = there; said = says.Nothing; pieces = []; met = letter_met place w h at; out = refl; all = refl })
+    hears_taken P n t (Begins (In (Among place w)) h) (code "f") (record { next = Fonts (In (Among place w)) h; there = there; said = says.Nothing; pieces = []; offered = letter_offered place w h at; out = refl; all = refl })
 
 named : Place → Words → ℕ → Half → Half
 named place w b h = without_escape (faced (face_of b) (spelling b (keeping b (font_half (lines.Words (words_at place w)) h))))
 
 Named : Place → Words → Half → ℕ → Type 0
-Named place w h b = meet (comings.Byte b) (font_half (lines.Words (words_at place w)) h) ≡ taken (says.Font (face_of b)) (open_half (lines.Words (words_at place w)) (named place w b h))
+Named place w h b = offer (comings.Byte b) (font_half (lines.Words (words_at place w)) h) ≡ taken (says.Font (face_of b)) (open_half (lines.Words (words_at place w)) (named place w b h))
 
 named_at : (place : Place) (w : Words) (h : Half) (b : ℕ) → is_face b ≡ true → Named place w h b
 unfolding Named named
@@ -202,7 +202,7 @@ font_hears P n t b place w h there is =
       there = there _;
       said = says.Font (face_of b);
       pieces = Face b ∷ [];
-      met = named_at place w h b is;
+      offered = named_at place w h b is;
       out = font_out t b is;
       all = refl;
     })
@@ -224,12 +224,12 @@ inside_begun P t b more p there = absurd (let no : false ≡ true = there in cc)
 
 -- ---- characters
 
-wide_met : (c : ℕ) (w : Words) (h : Half) → is_space c ≡ false → meet (comings.Wide c) (open_half (lines.Words w) h) ≡ as_is (met_at w.place Other (says.Character c) w) (placed (wide_mark c) h)
-wide_met c w h e =
-    ap (λ (x : Bool). as_met (met_words Other (if x && true then says.Escape (code "0") else says.Character c) w) (placed (wide_mark c) (open_half (lines.Words w) h))) e
-    ∙ ap (λ (k : Half). record { half = k; said = (met_at w.place Other (says.Character c) w).said; takes = (met_at w.place Other (says.Character c) w).takes }) (moved_by h.manual (wide_mark c) (lines.Words (met_at w.place Other (says.Character c) w).words) (lines.Words w) h)
+wide_offered : (c : ℕ) (w : Words) (h : Half) → is_space c ≡ false → offer (comings.Wide c) (open_half (lines.Words w) h) ≡ as_is (offered_at w.place Other (says.Character c) w) (placed (wide_mark c) h)
+wide_offered c w h e =
+    ap (λ (x : Bool). as_offered (offered_words Other (if x && true then says.Escape (code "0") else says.Character c) w) (placed (wide_mark c) (open_half (lines.Words w) h))) e
+    ∙ ap (λ (k : Half). record { half = k; said = (offered_at w.place Other (says.Character c) w).said; takes = (offered_at w.place Other (says.Character c) w).takes }) (moved_by h.manual (wide_mark c) (lines.Words (offered_at w.place Other (says.Character c) w).words) (lines.Words w) h)
 
-flows_on : (place : Place) (w : Words) (c : ℕ) (k : Half) → flowing place ≡ true → as_is (met_at place Other (says.Character c) (words_at place w)) k ≡ taken (says.Character c) (open_half (lines.Words (words_at place w)) k)
+flows_on : (place : Place) (w : Words) (c : ℕ) (k : Half) → flowing place ≡ true → as_is (offered_at place Other (says.Character c) (words_at place w)) k ≡ taken (says.Character c) (open_half (lines.Words (words_at place w)) k)
 unfolding flowing
 flows_on places.Inside w c k at = refl
 flows_on places.Quoted w c k at = refl
@@ -243,7 +243,7 @@ wide_taken P n t place w h c there flows clear =
       pieces = Looks c ∷ [];
       steps = 1;
       heard =
-          ap (λ (m : Met). behind (bytes_of t m.said) 1 (if m.takes then told (with_half m.half (at t (Flows (Among place w) h))) [] 0 else heard_in n (comings.Wide c) (with_half m.half (at t (Flows (Among place w) h))))) (wide_met c (words_at place w) h clear ∙ flows_on place w c (placed (wide_mark c) h) flows);
+          ap (λ (m : Offered). preceded (bytes_of t m.said) 1 (if m.takes then emitted (with_half m.half (at t (Flows (Among place w) h))) [] 0 else heard_in n (comings.Wide c) (with_half m.half (at t (Flows (Among place w) h))))) (wide_offered c (words_at place w) h clear ∙ flows_on place w c (placed (wide_mark c) h) flows);
       all = sym (append-nil (encode_utf8 c)) ∙ sym (append-nil (encode_utf8 c ++ []));
     }
 
@@ -260,7 +260,7 @@ unfolding flowing
 quoted_wide t c clear (Flows (Among places.Quoted w) h) there = wide_taken in_quotes 5 t places.Quoted w h c (λ k. refl) refl clear
 quoted_wide t c clear (Flows (Among places.Opened w) h) there =
     let k = placed (wide_mark c) h in
-    wide_left in_quotes 5 t (Flows (Among places.Opened w) h) (Flows (Among places.Quoted w) k) c says.Nothing [] (wide_met c (words_at places.Opened w) h clear) refl refl (wide_taken in_quotes 4 t places.Quoted w k c (λ k. refl) refl clear)
+    wide_left in_quotes 5 t (Flows (Among places.Opened w) h) (Flows (Among places.Quoted w) k) c says.Nothing [] (wide_offered c (words_at places.Opened w) h clear) refl refl (wide_taken in_quotes 4 t places.Quoted w k c (λ k. refl) refl clear)
 quoted_wide t c clear (Holds (Among places.Quoted w) h) there =
     let k : Half = record h { spelled = [] } in
     wide_left in_quotes 5 t (Holds (Among places.Quoted w) h) (Flows (Among places.Quoted w) k) c (says.Kept (code "-" ∷ [])) (Same (code "-") ∷ []) refl refl refl (wide_taken in_quotes 4 t places.Quoted w k c (λ k. refl) refl clear)
@@ -271,9 +271,9 @@ unfolding flowing
 wide_begins t c p w h there clear m =
     let k = placed (wide_mark c) h in
     wide_left inside 5 t p (Flows (Among places.Begun m.next) k) c (m.said t) (m.pieces t)
-    (ap (meet (comings.Wide c)) there ∙ wide_met c (words_at places.Between w) h clear ∙ ap (λ (told : WordsTold). as_is told k) (m.is t))
+    (ap (offer (comings.Wide c)) there ∙ wide_offered c (words_at places.Between w) h clear ∙ ap (λ (emitted : WordsEmitted). as_is emitted k) (m.is t))
     (m.out t) (m.all t ∙ sym (append-nil (all_were (m.pieces t))))
-    (wide_left inside 4 t (Flows (Among places.Begun m.next) k) (Flows (Among places.Inside m.next) (placed (wide_mark c) k)) c says.Nothing [] (wide_met c (words_at places.Begun m.next) k clear) refl refl
+    (wide_left inside 4 t (Flows (Among places.Begun m.next) k) (Flows (Among places.Inside m.next) (placed (wide_mark c) k)) c says.Nothing [] (wide_offered c (words_at places.Begun m.next) k clear) refl refl
     (wide_taken inside 3 t places.Inside m.next (placed (wide_mark c) k) c (λ k. refl) refl clear))
 
 between_wide : (t : Target) (c : ℕ) → is_space c ≡ false → (p : Spot) → between p ≡ true → HearsWide inside 6 t p c
@@ -356,15 +356,15 @@ pair_quoted p = false
 pair_is : IsLetter (code "(")
 pair_is = letter refl refl refl refl
 
-pair_met : (place : Place) (w : Words) (h : Half) → flowing place ≡ true → meet (comings.Byte (code "(")) (begun_half (lines.Words (words_at place w)) h) ≡ taken says.Nothing (pair_half (lines.Words (words_at place w)) h)
+pair_offered : (place : Place) (w : Words) (h : Half) → flowing place ≡ true → offer (comings.Byte (code "(")) (begun_half (lines.Words (words_at place w)) h) ≡ taken says.Nothing (pair_half (lines.Words (words_at place w)) h)
 unfolding flowing
-pair_met places.Inside w h at = refl
-pair_met places.Quoted w h at = refl
-pair_met place w h at = absurd (let no : false ≡ true = at in cc)
+pair_offered places.Inside w h at = refl
+pair_offered places.Quoted w h at = refl
+pair_offered place w h at = absurd (let no : false ≡ true = at in cc)
 
 pair_hears : (P : Spot → Bool) (n : ℕ) (t : Target) (place : Place) (w : Words) (h : Half) → P (Pairs (In (Among place w)) h) ≡ true → flowing place ≡ true → Hears P (suc n) t (Begins (In (Among place w)) h) (code "(")
 pair_hears P n t place w h there at =
-    hears_taken P n t (Begins (In (Among place w)) h) (code "(") (record { next = Pairs (In (Among place w)) h; there = there; said = says.Nothing; pieces = []; met = pair_met place w h at; out = refl; all = refl })
+    hears_taken P n t (Begins (In (Among place w)) h) (code "(") (record { next = Pairs (In (Among place w)) h; there = there; said = says.Nothing; pieces = []; offered = pair_offered place w h at; out = refl; all = refl })
 
 inside_pair : (t : Target) (p : Spot) → begun_inside p ≡ true → Hears pair_inside 6 t p (code "(")
 unfolding pair_inside flowing

@@ -9,7 +9,7 @@ use Rattle.preconv_converter.specs.declared.half.Asked.{Asked}
 use Rattle.preconv_converter.specs.declared.half.Asked.TheVariants.{Defined, Always, Never}
 use Rattle.preconv_converter.specs.Numbers.{begins_number}
 use Rattle.preconv_converter.specs.Beginnings.{is_known}
-use Rattle.preconv_converter.specs.Half.{Met, taken, left}
+use Rattle.preconv_converter.specs.Half.{Offered, taken, left}
 use Rattle.preconv_converter.specs.Hyphens.{saying}
 use Rattle.preconv_converter.specs.Endings.{with_byte}
 
@@ -18,10 +18,10 @@ is_gap b = (b == code " ") || (b == code "\t")
 
 -- ---- the first byte tells the condition: n t o e, v, d, c F, r m S, a number, or strings between delimiters
 
-abbrev pub asking : Asked → Half → Met
+abbrev pub asking : Asked → Half → Offered
 asking asked h = taken Nothing (record h { line = lines.Asked asked; name = [] })
 
-abbrev pub before_condition : ℕ → Half → Met
+abbrev pub before_condition : ℕ → Half → Offered
 before_condition b h =
     if b == code "\n" then saying b lines.Start h else
     if is_gap b || (b == code "!") then saying b lines.Condition h else
@@ -33,12 +33,12 @@ before_condition b h =
     if (b == code "r") || (b == code "m") || (b == code "S") then asking Never h else
     if begins_number b then saying b lines.Number h else saying b (lines.Strings b false) h
 
-abbrev pub in_number : ℕ → Half → Met
+abbrev pub in_number : ℕ → Half → Offered
 in_number b h =
     if b == code "\n" then saying b lines.Start h else
     if is_gap b then saying b lines.Part h else saying b lines.Number h
 
-abbrev pub in_strings : ℕ → Bool → ℕ → Half → Met
+abbrev pub in_strings : ℕ → Bool → ℕ → Half → Offered
 in_strings delimiter ended b h =
     if b == code "\n" then saying b lines.Start h else
     if b == delimiter
@@ -55,10 +55,10 @@ holds Never name = false
 abbrev pub answer : Asked → Half → ℕ
 answer asked h = if holds asked h.name then code "1" else code "0"
 
-abbrev pub answering : Asked → Line → Half → Met
+abbrev pub answering : Asked → Line → Half → Offered
 answering asked line h = left (Byte (answer asked h)) (record h { line = line })
 
-abbrev pub in_asked : Asked → ℕ → Half → Met
+abbrev pub in_asked : Asked → ℕ → Half → Offered
 in_asked asked b h =
     if b == code "\n" then answering asked lines.Request h else
     if is_gap b then (if length h.name == 0 then taken Nothing h else answering asked lines.Part h)

@@ -7,23 +7,23 @@ use Rattle.preconv_converter.specs.declared.half.Half.{Half}
 use Rattle.preconv_converter.specs.declared.half.Escape.{Escape}
 use Rattle.preconv_converter.specs.declared.half.Escape.TheVariants as escapes
 use Rattle.preconv_converter.specs.declared.half.Mark.TheVariants.{Other}
-use Rattle.preconv_converter.specs.Half.{Met, taken, abandoned}
+use Rattle.preconv_converter.specs.Half.{Offered, taken, abandoned}
 use Rattle.preconv_converter.specs.Hyphens.{placed, after_hyphen, after_sentence}
 use Rattle.preconv_converter.specs.Endings.{ended, ends_with}
 use Rattle.preconv_converter.specs.Skipping.{skip_from, skipped, embedded}
 use Rattle.preconv_converter.specs.Letters.{newline_hidden, after_backslash}
 use Rattle.preconv_converter.specs.Spelling.{target, font_escape, pair, spelled_up_to, delimiter, bracketed, nested}
 
-abbrev pub argument : ℕ → Half → Met
+abbrev pub argument : ℕ → Half → Offered
 argument b h =
     if b == code "*" then ended (says.Arguments (nat_lt 2 (length h.kept))) (placed Other h) else
     if b == code "@" then ended (says.QuotedArguments (nat_lt 2 (length h.kept))) (placed Other h) else
     if b == code "\n" then abandoned h else ends_with b h
 
-abbrev pub noted : ℕ → Half → Met
+abbrev pub noted : ℕ → Half → Offered
 noted b h = if b == code "\n" then newline_hidden h else taken says.Nothing h
 
-abbrev pub in_part : Escape → ℕ → Half → Met
+abbrev pub in_part : Escape → ℕ → Half → Offered
 in_part escapes.Plain b h = abandoned h
 in_part escapes.Begun b h = after_backslash b h
 in_part escapes.Argument b h = argument b h
@@ -42,5 +42,5 @@ in_part escapes.Hyphen b h = after_hyphen b h
 in_part escapes.Sentence b h = after_sentence b h
 
 -- an escape that is longer than what is kept goes out
-abbrev pub in_escape : ℕ → Half → Met
+abbrev pub in_escape : ℕ → Half → Offered
 in_escape b h = if is_full h.kept then abandoned h else in_part h.escape b h

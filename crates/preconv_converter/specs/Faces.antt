@@ -6,7 +6,7 @@ use Rattle.preconv_converter.specs.declared.said.Said.TheVariants as says
 use Rattle.preconv_converter.specs.declared.half.Half.{Half}
 use Rattle.preconv_converter.specs.declared.half.Line.{Line}
 use Rattle.preconv_converter.specs.declared.half.Line.TheVariants as lines
-use Rattle.preconv_converter.specs.Half.{Met, taken, left}
+use Rattle.preconv_converter.specs.Half.{Offered, taken, left}
 use Rattle.preconv_converter.specs.Glyphs.{font_of}
 use Rattle.preconv_converter.specs.Words.{word_face}
 use Rattle.preconv_converter.specs.Hyphens.{saying}
@@ -44,22 +44,22 @@ named_face name h = font_or (font_of name) (face_at h.line h.font)
 
 -- ---- by an escape
 
-abbrev pub font_named : Half → Met
+abbrev pub font_named : Half → Offered
 font_named h = ended_font (says.Font (named_face h.spelled h)) (faced (named_face h.spelled h) h)
 
 -- ---- by a line of `.ft`
 
-abbrev pub face_ended : Half → Met
+abbrev pub face_ended : Half → Offered
 face_ended h =
     left (if length h.name == 0 then says.Nothing else says.Byte (named_face h.name h))
     (record (faced (named_face h.name h) h) { line = lines.Request; name = [] })
 
 -- what an escape names there isn't known
-abbrev pub face_unknown : Half → Met
+abbrev pub face_unknown : Half → Offered
 face_unknown h =
     left says.Nothing (record h { font = code "R"; previous = code "R"; line = lines.Request })
 
-abbrev pub in_face : ℕ → Half → Met
+abbrev pub in_face : ℕ → Half → Offered
 in_face b h =
     if b == code "\n" then face_ended h else
     if ((b == code " ") || (b == code "\t")) && (length h.name == 0) then saying b lines.Face h else

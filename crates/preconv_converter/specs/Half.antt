@@ -22,20 +22,20 @@ use Rattle.preconv_converter.specs.declared.half.Escape.TheVariants as escapes
 use Rattle.preconv_converter.specs.Likeness.{is_blank}
 use Rattle.preconv_converter.specs.Translations.{no_translations}
 
--- what is half read then, what goes out, and whether the character is taken: one that is left is met again
-pub record Met : Type 0 where
+-- what is half read then, what goes out, and whether the character is taken: one that is left is offered again
+pub record Offered : Type 0 where
   pub half : Half
   pub said : Said
   pub takes : Bool
 
 -- the same, as the program has it
-abbrev pub met : Half → Seen → Met
-met h seen = record { half = h; said = seen.said; takes = seen.takes }
+abbrev pub offered : Half → Seen → Offered
+offered h seen = record { half = h; said = seen.said; takes = seen.takes }
 
-abbrev pub taken : Said → Half → Met
+abbrev pub taken : Said → Half → Offered
 taken said h = record { half = h; said = said; takes = true }
 
-abbrev pub left : Said → Half → Met
+abbrev pub left : Said → Half → Offered
 left said h = record { half = h; said = said; takes = false }
 
 -- a page begins
@@ -135,9 +135,9 @@ with_format tables.Separated = tables.Separated
 with_format table = tables.Format
 
 -- what is read of a table when a line ends, before whose end this stands: a format ends with a dot
-abbrev pub table_behind : Table → Before → Table
-table_behind tables.Format (Character Stop) = tables.Rows
-table_behind table before = table
+abbrev pub table_after : Table → Before → Table
+table_after tables.Format (Character Stop) = tables.Rows
+table_after table before = table
 
 -- a blank that isn't what separates words
 abbrev pub is_space : ℕ → Bool
@@ -180,5 +180,5 @@ abbrev pub in_fonts : Half → Half
 in_fonts h = record h { line = with_font h.line }
 
 -- it is none: what was kept goes out, and the character that comes is read anew
-abbrev pub abandoned : Half → Met
+abbrev pub abandoned : Half → Offered
 abandoned h = left (says.Kept h.kept) (in_text (without_escape h))

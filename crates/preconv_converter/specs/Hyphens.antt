@@ -15,7 +15,7 @@ use Rattle.preconv_converter.specs.declared.half.Table.TheVariants as tables
 use Rattle.preconv_converter.specs.declared.half.Escape.TheVariants as escapes
 use Rattle.preconv_converter.specs.Numbers.{is_within}
 use Rattle.preconv_converter.specs.Likeness.{is_latin_letter}
-use Rattle.preconv_converter.specs.Half.{Met, taken, left, next_line, is_whole, is_read, is_format, is_separated, table_behind, character_said, without_escape, abandoned}
+use Rattle.preconv_converter.specs.Half.{Offered, taken, left, next_line, is_whole, is_read, is_format, is_separated, table_after, character_said, without_escape, abandoned}
 use Rattle.preconv_converter.specs.Translations.{translated}
 use Rattle.preconv_converter.specs.Words.{has_hyphens as words_have}
 
@@ -80,11 +80,11 @@ abbrev pub placed : Mark → Half → Half
 placed mark h = if h.manual then record h { before = followed mark h.before } else h
 
 -- a line ends
-abbrev pub line_behind : Half → Half
-line_behind h = record h { before = Character Other; tag = next_line h.tag; table = table_behind h.table h.before }
+abbrev pub line_after : Half → Half
+line_after h = record h { before = Character Other; tag = next_line h.tag; table = table_after h.table h.before }
 
 abbrev pub gone_by : ℕ → Half → Half
-gone_by b h = if b == code "\n" then line_behind h else placed (mark_of b) h
+gone_by b h = if b == code "\n" then line_after h else placed (mark_of b) h
 
 -- a word begins there that no blank stands before
 abbrev pub is_begun : Before → Bool
@@ -111,7 +111,7 @@ is_flowing h = h.manual && not (is_read h.table)
 
 -- After a letter what comes decides, but in a tag or an address; else it goes out as `\-`, after which no line is broken. One
 -- that copying a macro's word makes `\-` stays.
-abbrev pub hyphen_by : Before → Half → Met
+abbrev pub hyphen_by : Before → Half → Offered
 hyphen_by (Character Letter) h =
     if is_whole h.tag then taken (says.Escape (code "-")) (record h { before = Character Other })
     else taken says.Nothing (record h { before = Character Other; escape = escapes.Hyphen; kept = code "-" ∷ [] })
@@ -124,7 +124,7 @@ abbrev pub separated_by : Before → Table
 separated_by (Character Opening) = tables.Separated
 separated_by before = tables.Format
 
-abbrev pub hyphen_at : Bool → Before → Half → Met
+abbrev pub hyphen_at : Bool → Before → Half → Offered
 hyphen_at true before h =
     taken (says.Byte (code "-")) (record h { before = Character Other; table = separated_by before })
 hyphen_at false before h = hyphen_by before h
@@ -134,24 +134,24 @@ has_hyphens (lines.Words words) = words_have words
 has_hyphens line = true
 
 -- in a number it is a sign
-abbrev pub hyphen : Line → Half → Met
+abbrev pub hyphen : Line → Half → Offered
 hyphen line h =
     if not (has_hyphens line) then taken (says.Byte (code "-")) (record h { line = line })
     else hyphen_at (is_format h.table) h.before (record h { line = line })
 
 -- between letters it stays, and so does one before an escape, which may be that of a font
-abbrev pub after_hyphen : ℕ → Half → Met
+abbrev pub after_hyphen : ℕ → Half → Offered
 after_hyphen b h =
     if is_ascii_letter b || (b == code "\\") then abandoned h
     else left (says.Escape (code "-")) (without_escape h)
 
 -- ---- text lines
 
-abbrev pub saying : ℕ → Line → Half → Met
+abbrev pub saying : ℕ → Line → Half → Offered
 saying b line h = taken (says.Byte b) (record (gone_by b h) { line = line })
 
 -- a character goes out as what it looks like, and the line goes on so
-abbrev pub showing : ℕ → Line → Half → Met
+abbrev pub showing : ℕ → Line → Half → Offered
 showing c line h = taken (character_said h.line c) (record (placed (wide_mark c) h) { line = line })
 
 -- A carriage return is dropped, and a byte may be translated.
@@ -161,7 +161,7 @@ carriage_return = 13
 abbrev pub is_moved : ℕ → Half → Bool
 is_moved b h = (b == carriage_return) || (h.translating && not (translated b h.translations == 0))
 
-abbrev pub moved : ℕ → Half → Met
+abbrev pub moved : ℕ → Half → Offered
 moved b h = if b == carriage_return then taken says.Nothing h else showing (translated b h.translations) lines.Text h
 
 -- The language ends a sentence with `.`, `?` or `!` alone, groff also with what closes after it. So the newline waits for what
@@ -173,18 +173,18 @@ is_closed before = false
 abbrev pub closes : Half → Bool
 closes h = is_flowing h && not h.defining && is_closed h.before
 
-abbrev pub newline_held : Half → Met
+abbrev pub newline_held : Half → Offered
 newline_held h =
     taken says.Nothing (record (gone_by (code "\n") h)
     { line = lines.Start; escape = escapes.Sentence; kept = code "\n" ∷ [] })
 
 -- a blank or an empty line breaks
-abbrev pub after_sentence : ℕ → Half → Met
+abbrev pub after_sentence : ℕ → Half → Offered
 after_sentence b h =
     left (says.Kept (if (b == code " ") || (b == code "\n") then code "\n" ∷ [] else codes "\\*(.\\n(.u\n"))
     (without_escape h)
 
-abbrev pub in_text : ℕ → Half → Met
+abbrev pub in_text : ℕ → Half → Offered
 in_text b h =
     if is_moved b h then moved b h else
     if b == code "\n" then (if closes h then newline_held h else saying b lines.Start h) else

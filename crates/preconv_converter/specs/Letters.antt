@@ -12,16 +12,16 @@ use Rattle.preconv_converter.specs.declared.half.Mark.{Mark}
 use Rattle.preconv_converter.specs.declared.half.Mark.TheVariants.{Backslash, Other}
 use Rattle.preconv_converter.specs.declared.half.Kind.TheVariants as kinds
 use Rattle.preconv_converter.specs.declared.words.Class.TheVariants as classes
-use Rattle.preconv_converter.specs.declared.words.Told.{Told}
-use Rattle.preconv_converter.specs.Half.{Met, taken, left, is_text, is_read, takes_brace, without_escape}
+use Rattle.preconv_converter.specs.declared.words.Emitted.{Emitted}
+use Rattle.preconv_converter.specs.Half.{Offered, taken, left, is_text, is_read, takes_brace, without_escape}
 use Rattle.preconv_converter.specs.Hyphens.{placed, begins_after, leaving_hyphens, may_hang}
-use Rattle.preconv_converter.specs.Words.{met_words, begins_word}
+use Rattle.preconv_converter.specs.Words.{offered_words, begins_word}
 use Rattle.preconv_converter.specs.Endings.{with_byte, keeping, going_on, ended, ends_with, dropped, kept_or}
 use Rattle.preconv_converter.specs.Skipping.{skip, embed}
 use Rattle.preconv_converter.specs.Likeness.{cut}
 use Rattle.preconv_converter.specs.Lines.{control}
 
-abbrev pub comment : Said → Half → Met
+abbrev pub comment : Said → Half → Offered
 comment said h = taken said (record (without_escape h) { before = Character Other; line = lines.Comment })
 
 -- where nothing has begun after a condition, a newline after a backslash is dropped
@@ -30,17 +30,17 @@ hidden_by lines.Part said = says.Nothing
 hidden_by lines.Condition said = says.Nothing
 hidden_by line said = said
 
-abbrev pub newline_hidden : Half → Met
+abbrev pub newline_hidden : Half → Offered
 newline_hidden h = taken (hidden_by h.line (says.Kept (with_byte (code "\n") h.kept))) (without_escape h)
 
 -- after a condition a part begins
-abbrev pub brace : Half → Met
+abbrev pub brace : Half → Offered
 brace h =
     let m = ends_with (code "{") h in
     if takes_brace h.line then record m { half = record m.half { line = lines.Braced } } else m
 
 -- a blank that is no gap: in a control line it must not end a word
-abbrev pub blank : Half → Met
+abbrev pub blank : Half → Offered
 blank h = ended (says.Escape (if is_text h.line then code " " else code "0")) (placed Other h)
 
 -- an escape with a number or a text: \h at the beginning of a line may make it hang
@@ -49,7 +49,7 @@ is_measured b =
     (b == code "h") || (b == code "v") || (b == code "w") || (b == code "l") || (b == code "L")
     || (b == code "D") || (b == code "b") || (b == code "x")
 
-abbrev pub measured : ℕ → Half → Met
+abbrev pub measured : ℕ → Half → Offered
 measured b h =
     if (b == code "h") && may_hang h then going_on b (escapes.Delimiter kinds.Hang) (leaving_hyphens h)
     else ends_with b (leaving_hyphens h)
@@ -69,7 +69,7 @@ abbrev pub repeats : ℕ → Half → Bool
 repeats b h = (b == code "R") && is_read h.table
 
 -- `\'` is an acute accent (groff_char(7))
-abbrev pub acute : Half → Met
+abbrev pub acute : Half → Offered
 acute h = kept_or (code "´") (keeping (code "'") h)
 
 abbrev pub is_start : Line → Bool
@@ -81,19 +81,19 @@ abbrev pub copied_mark : Line → Mark
 copied_mark (lines.Words words) = Backslash
 copied_mark line = Other
 
-abbrev pub backslash : Half → Met
+abbrev pub backslash : Half → Offered
 backslash h = ended (says.Kept (with_byte (code "\\") h.kept)) (placed (copied_mark h.line) (keeping (code "\\") h))
 
 -- A text line that begins with `\.` is a control line (groff reads it so), but in a definition it may be one within, and in a
 -- table it is a row.
-abbrev pub dot : Half → Met
+abbrev pub dot : Half → Offered
 dot h =
     if h.defining || is_read h.table || not (is_start h.line) then ends_with (code ".") h
     else control false (code ".") (without_escape h)
 
 -- By the byte after the backslash. `\:` is a place to cut a word; `\%` is none after an opening bracket or a quote, where it only keeps a
 -- word whole.
-abbrev pub letter : ℕ → Half → Met
+abbrev pub letter : ℕ → Half → Offered
 letter b h =
     if b == code "(" then going_on b (escapes.Pair kinds.Glyph) h else
     if b == code "[" then going_on b (escapes.Bracket kinds.Glyph) h else
@@ -126,11 +126,11 @@ waits (lines.Words words) = begins_word words
 waits lines.Condition = true
 waits line = false
 
-abbrev pub word_made : Told → Half → Met
-word_made told h = left told.said (record h { line = lines.Words told.words })
+abbrev pub word_made : Emitted → Half → Offered
+word_made emitted h = left emitted.said (record h { line = lines.Words emitted.words })
 
-abbrev pub made_way : Line → Half → Met
-made_way (lines.Words words) h = word_made (met_words classes.Other says.Nothing words) h
+abbrev pub made_way : Line → Half → Offered
+made_way (lines.Words words) h = word_made (offered_words classes.Other says.Nothing words) h
 made_way lines.Condition h = left says.Nothing (record h { line = lines.Number })
 made_way line h = left says.Nothing h
 
@@ -144,7 +144,7 @@ is_text_line lines.Fonts = true
 is_text_line line = false
 
 -- In a definition, and in the text of a string, an escape may have several backslashes. In a text line a note hides its newline.
-abbrev pub after_backslash : ℕ → Half → Met
+abbrev pub after_backslash : ℕ → Half → Offered
 after_backslash b h =
     if b == code "\n" then newline_hidden h else
     if (b == code "\\") && (h.defining || is_stored h.line) then going_on b escapes.Begun h else

@@ -11,7 +11,7 @@ pub mod Hyphens
 pub mod Letters
 pub mod Likeness
 pub mod Lines
-pub mod Meeting
+pub mod Offering
 pub mod Named
 pub mod Numbers
 pub mod Passing

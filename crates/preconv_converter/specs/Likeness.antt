@@ -88,8 +88,8 @@ box_like c =
 abbrev pub hex_digit : ℕ → ℕ
 hex_digit value = if nat_lt value 10 then code "0" + value else code "A" - 10 + value
 
-abbrev pub code_told : ℕ → List ℕ
-code_told c =
+abbrev pub code_emitted : ℕ → List ℕ
+code_emitted c =
     codes "<U+"
     ++ (if nat_le 1048576 c then hex_digit (c / 1048576 % 16) ∷ [] else [])
     ++ (if nat_le 65536 c then hex_digit (c / 65536 % 16) ∷ [] else [])
@@ -99,7 +99,7 @@ code_told c =
 -- ---- all together
 
 abbrev pub text_or_code : ℕ → Option (List ℕ) → List ℕ
-text_or_code c None = code_told c
+text_or_code c None = code_emitted c
 text_or_code c (Some text) = before_nul text
 
 abbrev pub text_or_word : ℕ → Option (List ℕ) → List ℕ
@@ -108,7 +108,7 @@ text_or_word c (Some text) = before_nul text
 
 -- a sign, by the tables, which have none from U+3040 to U+FAFF
 abbrev pub sign_like : ℕ → List ℕ
-sign_like c = if is_within 12352 64255 c then code_told c else text_or_word c (sign_text c)
+sign_like c = if is_within 12352 64255 c then code_emitted c else text_or_word c (sign_text c)
 
 abbrev pub byte_or : Option ℕ → List ℕ → List ℕ
 byte_or None other = other

@@ -21,17 +21,17 @@ use Rattle.preconv_converter.specs.declared.half.Dots.TheVariants as dots
 use Rattle.preconv_converter.specs.declared.beginnings.Opens.{Opens}
 use Rattle.preconv_converter.specs.declared.beginnings.Opens.TheVariants as opens
 use Rattle.preconv_converter.specs.declared.words.Words.{Words}
-use Rattle.preconv_converter.specs.declared.words.Told.{Told}
+use Rattle.preconv_converter.specs.declared.words.Emitted.{Emitted}
 use Rattle.preconv_converter.specs.declared.words.Fonts.TheVariants.{Tag as TagFonts}
 use Rattle.preconv_converter.specs.declared.words.Class.{Class}
 use Rattle.preconv_converter.specs.declared.words.Class.TheVariants.{Other}
-use Rattle.preconv_converter.specs.Half.{Met, taken, left, is_in_last, is_read, with_format, character_said, with_text}
+use Rattle.preconv_converter.specs.Half.{Offered, taken, left, is_in_last, is_read, with_format, character_said, with_text}
 use Rattle.preconv_converter.specs.Translations.{translated, with_pair}
 use Rattle.preconv_converter.specs.Beginnings.{opened, said_name, is_roman}
 use Rattle.preconv_converter.specs.Faces.{in_face, face_ended}
 use Rattle.preconv_converter.specs.Hyphens.{wide_mark, placed, gone_by, showing, carriage_return, is_moved, saying, in_text, hyphen, turns_hyphens, is_flowing}
 use Rattle.preconv_converter.specs.Conditions.{is_gap, before_condition, in_number, in_strings, in_asked}
-use Rattle.preconv_converter.specs.Words.{first_words, begins_word, is_ninth, met_words, class_of}
+use Rattle.preconv_converter.specs.Words.{first_words, begins_word, is_ninth, offered_words, class_of}
 
 -- a blank, a control byte or a backslash ends a name
 abbrev pub ends_name : ℕ → Bool
@@ -42,7 +42,7 @@ ends_name b = nat_le b (code " ") || (b == code "\\") || (b == 127)
 abbrev pub is_control : ℕ → Bool
 is_control b = (b == code ".") || (b == code "'")
 
-abbrev pub control : Bool → ℕ → Half → Met
+abbrev pub control : Bool → ℕ → Half → Offered
 control conditional b h = saying b lines.Control (record h { name = []; conditional = conditional })
 
 -- the line before has the tag of a paragraph
@@ -54,23 +54,23 @@ follows_tag h = is_flowing h && is_in_last h.tag
 abbrev pub begins_apart : ℕ → Bool
 begins_apart b = (b == code "\n") || (b == code " ")
 
-abbrev pub breaking : ℕ → Half → Met
+abbrev pub breaking : ℕ → Half → Offered
 breaking b h = left (Kept (if b == code "\n" then codes ".sp" else codes ".br\n")) (record h { tag = tags.Nowhere })
 
-abbrev pub at_start : ℕ → Half → Met
+abbrev pub at_start : ℕ → Half → Offered
 at_start b h =
     if is_control b then control false b h else
     if follows_tag h && begins_apart b then breaking b h else
     if b == code "\n" then saying b lines.Start h else in_text b h
 
 -- Blanks before the first word of a filled line are dropped. After fonts they are printed, as are those between words.
-abbrev pub after_fonts : ℕ → Half → Met
+abbrev pub after_fonts : ℕ → Half → Offered
 after_fonts b h =
     if (b == code " ") && not (is_read h.table) then left (Escape (code "&")) (record h { line = lines.Text })
     else in_text b h
 
 -- after a condition, where blanks are skipped
-abbrev pub at_part : ℕ → Half → Met
+abbrev pub at_part : ℕ → Half → Offered
 at_part b h =
     if is_control b then control true b h else
     if b == code "\n" then saying b lines.Start h else
@@ -78,14 +78,14 @@ at_part b h =
 
 -- ---- the name of a control line
 
-abbrev pub naming : List ℕ → Line → Half → Met
+abbrev pub naming : List ℕ → Line → Half → Offered
 naming name line h = taken Nothing (record h { name = name; line = line })
 
-abbrev pub blanks_said : Line → Half → Met
+abbrev pub blanks_said : Line → Half → Offered
 blanks_said line h = left (Kept h.name) (record h { name = []; line = line })
 
 -- Blanks after the control character are kept. In a definition they are dropped before a second one, which ends it.
-abbrev pub after_control : ℕ → Half → Met
+abbrev pub after_control : ℕ → Half → Offered
 after_control b h =
     if (b == code ".") && h.defining then naming (code "." ∷ []) lines.Name h else
     if is_gap b && not (is_full h.name) then naming (h.name ++ b ∷ []) lines.Control h else
@@ -153,18 +153,18 @@ opening o b h = record h {
 }
 
 -- the name goes out before the byte that ended it
-abbrev pub named_line : ℕ → Half → Met
+abbrev pub named_line : ℕ → Half → Offered
 named_line b h =
     left (said_name (opened h.name) h.name b) (record (opening (opened h.name) b h) { name = [] })
 
-abbrev pub in_name : ℕ → Half → Met
+abbrev pub in_name : ℕ → Half → Offered
 in_name b h =
     if ends_name b || is_full h.name then named_line b h
     else taken Nothing (record h { name = h.name ++ b ∷ [] })
 
 -- ---- the rest of a line
 
-abbrev pub in_rest : ℕ → Half → Met
+abbrev pub in_rest : ℕ → Half → Offered
 in_rest b h =
     if b == carriage_return then taken Nothing h else saying b (if b == code "\n" then lines.Start else h.line) h
 
@@ -177,32 +177,32 @@ abbrev pub translation_ended : Pair → Half → Half
 translation_ended (Second a) h = pairing a (code " ") h
 translation_ended pair h = h
 
-abbrev pub translation_on : Pair → ℕ → Half → Met
+abbrev pub translation_on : Pair → ℕ → Half → Offered
 translation_on First b h = saying b (lines.Translation (if b == code " " then First else Second b)) h
 translation_on (Second a) b h = saying b (lines.Translation First) (pairing a b h)
 translation_on OtherPair b h = saying b (lines.Translation First) h
 
-abbrev pub in_translation : Pair → ℕ → Half → Met
+abbrev pub in_translation : Pair → ℕ → Half → Offered
 in_translation pair b h =
     if b == carriage_return then taken Nothing h else
     if b == code "\n" then saying b lines.Start (translation_ended pair h) else translation_on pair b h
 
-abbrev pub as_met : Told → Half → Met
-as_met told h =
-    record { half = record h { line = lines.Words told.words }; said = told.said; takes = told.takes }
+abbrev pub as_offered : Emitted → Half → Offered
+as_offered emitted h =
+    record { half = record h { line = lines.Words emitted.words }; said = emitted.said; takes = emitted.takes }
 
-abbrev pub among_words : Words → Class → Said → Half → Met
-among_words words class said h = as_met (met_words class said words) h
+abbrev pub among_words : Words → Class → Said → Half → Offered
+among_words words class said h = as_offered (offered_words class said words) h
 
 -- the ninth word has its last quote before the newline
 -- one that is dropped or translated
-abbrev pub word_moved : Words → ℕ → Half → Met
+abbrev pub word_moved : Words → ℕ → Half → Offered
 word_moved words b h =
     if b == carriage_return then taken Nothing h else
     let c = translated b h.translations in
     among_words words Other (character_said (lines.Words words) c) (placed (wide_mark c) h)
 
-abbrev pub in_words : Words → ℕ → Half → Met
+abbrev pub in_words : Words → ℕ → Half → Offered
 in_words words b h =
     if is_moved b h then word_moved words b h else
     if (b == code "-") && turns_hyphens h && not (begins_word words) then hyphen (lines.Words words) h else
@@ -213,9 +213,9 @@ in_words words b h =
 -- ---- comments and ignored lines: bytes pass as they are
 
 -- the last of the ignored lines begins with two dots
-abbrev pub behind_ignored : Dots → Line
-behind_ignored dots.Two = lines.Start
-behind_ignored d = lines.Ignored dots.Start
+abbrev pub after_ignored : Dots → Line
+after_ignored dots.Two = lines.Start
+after_ignored d = lines.Ignored dots.Start
 
 abbrev pub one_dot_more : Dots → Dots
 one_dot_more dots.Start = dots.One
@@ -229,7 +229,7 @@ no_dot d = dots.Other
 abbrev pub line_passed : Line → ℕ → Line
 line_passed lines.Comment b = if b == code "\n" then lines.Start else lines.Comment
 line_passed (lines.Ignored d) b =
-    if b == code "\n" then behind_ignored d else
+    if b == code "\n" then after_ignored d else
     if b == code "." then lines.Ignored (one_dot_more d) else lines.Ignored (no_dot d)
 line_passed line b = line
 
@@ -238,7 +238,7 @@ passing b h = record h { line = line_passed h.line b }
 
 -- ---- by where the line is read
 
-abbrev pub in_line_at : Line → ℕ → Half → Met
+abbrev pub in_line_at : Line → ℕ → Half → Offered
 in_line_at lines.Start b h = at_start b h
 in_line_at lines.Control b h = after_control b h
 in_line_at lines.Name b h = in_name b h
@@ -257,12 +257,12 @@ in_line_at lines.Text b h = in_text b h
 in_line_at lines.Fonts b h = after_fonts b h
 in_line_at line b h = in_rest b h
 
-abbrev pub in_line : ℕ → Half → Met
+abbrev pub in_line : ℕ → Half → Offered
 in_line b h = in_line_at h.line b h
 
 -- ---- characters beyond ASCII
 
-abbrev pub wide_at : Line → ℕ → Half → Met
+abbrev pub wide_at : Line → ℕ → Half → Offered
 wide_at lines.Start c h = showing c lines.Text h
 wide_at lines.Part c h = showing c lines.Text h
 wide_at lines.Braced c h = showing c lines.Text h
@@ -276,7 +276,7 @@ wide_at (lines.Words words) c h =
 wide_at (lines.Asked asked) c h = in_asked asked (code "?") h
 wide_at line c h = showing c (with_text line) h
 
-abbrev pub wide_in_line : ℕ → Half → Met
+abbrev pub wide_in_line : ℕ → Half → Offered
 wide_in_line c h = wide_at h.line c h
 
 -- ---- a backslash begins an escape

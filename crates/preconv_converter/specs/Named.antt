@@ -11,7 +11,7 @@ use Rattle.preconv_converter.specs.declared.half.Before.TheVariants.{Character}
 use Rattle.preconv_converter.specs.declared.half.Mark.TheVariants.{Other}
 use Rattle.preconv_converter.specs.declared.half.Kind.{Kind}
 use Rattle.preconv_converter.specs.declared.half.Kind.TheVariants as kinds
-use Rattle.preconv_converter.specs.Half.{Met, taken, character_said, marked_said, without_escape}
+use Rattle.preconv_converter.specs.Half.{Offered, taken, character_said, marked_said, without_escape}
 use Rattle.preconv_converter.specs.Hyphens.{wide_mark, placed, is_hang}
 use Rattle.preconv_converter.specs.Glyphs.{is_pair, is_native, is_struck, glyph_code, code_of, overstruck, quote_of, string_code}
 use Rattle.preconv_converter.specs.Composed.{has_marks, marked_by}
@@ -24,11 +24,11 @@ abbrev pub is_delimited : Escape → Bool
 is_delimited (escapes.Delimited kind end) = true
 is_delimited escape = false
 
-abbrev pub character : Option ℕ → Half → Met
+abbrev pub character : Option ℕ → Half → Offered
 character None h = if is_delimited h.escape then dropped h else ended_kept h
 character (Some c) h = ended (character_said h.line c) (placed (wide_mark c) h)
 
-abbrev pub struck : Option ℕ → Half → Met
+abbrev pub struck : Option ℕ → Half → Offered
 struck None h = character None h
 struck (Some c) h = ended (says.Struck c) (placed Other h)
 
@@ -37,26 +37,26 @@ is_translation (lines.Translation pair) = true
 is_translation line = false
 
 -- one that the language has goes out as it was kept, or as a byte
-abbrev pub native : Option ℕ → Half → Met
+abbrev pub native : Option ℕ → Half → Offered
 native None h = ended_kept h
 native (Some c) h = ended (says.Native h.kept c) (placed (wide_mark c) h)
 
 -- a letter with marks
-abbrev pub marked : Option ℕ → Half → Met
+abbrev pub marked : Option ℕ → Half → Offered
 marked None h = character None h
 marked (Some c) h = ended (marked_said h.line (marked_by h.spelled c)) (placed (wide_mark (marked_by h.spelled c).whole) h)
 
-abbrev pub sign : Half → Met
+abbrev pub sign : Half → Offered
 sign h =
     if is_struck h.spelled then struck (glyph_code h.spelled) h else
     if has_marks h.spelled then marked (glyph_code h.spelled) h else character (glyph_code h.spelled) h
 
-abbrev pub quoted : Option (List ℕ) → Half → Met
+abbrev pub quoted : Option (List ℕ) → Half → Offered
 quoted None h = sign h
 quoted (Some quote) h = ended (says.Kept quote) (placed Other h)
 
 -- A character by its name. `.tr \(*W-` makes \(*W a dash; where `.tr \(is'` came, three signs are quotes.
-abbrev pub glyph : Half → Met
+abbrev pub glyph : Half → Offered
 glyph h =
     if is_native h.spelled && not (is_delimited h.escape) then native (glyph_code h.spelled) h else
     if is_pair (code "*") (code "W") h.spelled && is_translation h.line
@@ -67,26 +67,26 @@ glyph h =
     then ended_kept (record h { quotes = true }) else
     if h.quotes && not (is_translation h.line) then quoted (quote_of h.spelled) h else sign h
 
-abbrev pub numbered : Half → Met
+abbrev pub numbered : Half → Offered
 numbered h = character (code_of h.spelled) h
 
 -- a string of man(7) that is a character
-abbrev pub string : Option ℕ → Half → Met
+abbrev pub string : Option ℕ → Half → Offered
 string None h = ended_kept h
 string (Some c) h = kept_or c h
 
-abbrev pub tested : Bool → Half → Met
+abbrev pub tested : Bool → Half → Offered
 tested holds h = ended (says.Byte (if holds then code "1" else code "0")) (placed Other h)
 
 -- so far to the left the line begins
-abbrev pub hang : Half → Met
+abbrev pub hang : Half → Offered
 hang h =
     if is_hang h.spelled
     then taken (says.Hang h.spelled) (record (without_escape h)
     { line = lines.Text; before = Character Other }) else ended_kept h
 
 -- The register `.g` is 1. Sizes and colours are dropped.
-abbrev pub named : Kind → Half → Met
+abbrev pub named : Kind → Half → Offered
 named kinds.Glyph h = glyph h
 named kinds.Code h = numbered h
 named kinds.Font h = font_named h

@@ -13,43 +13,43 @@ use Rattle.preconv_converter.specs.Numbers.{is_within}
 use Rattle.preconv_converter.specs.Saying.{bytes_of, sent, all_sent}
 use Rattle.preconv_converter.specs.Half.{first_half}
 use Rattle.preconv_converter.specs.Lines.{passing}
-use Rattle.preconv_converter.specs.Meeting.{meet, is_raw}
+use Rattle.preconv_converter.specs.Offering.{offer, is_raw}
 
--- What is half read then, what goes out, and in how many steps: a character meets what is half read, or a byte passes as it is.
-pub record Told : Type 0 where
+-- What is half read then, what goes out, and in how many steps: a character is offered to what is half read, or a byte passes as it is.
+pub record Emitted : Type 0 where
   pub reader : Reader
   pub bytes : List ℕ
   pub steps : ℕ
 
-abbrev pub told : Reader → List ℕ → ℕ → Told
-told r bytes steps = record { reader = r; bytes = bytes; steps = steps }
+abbrev pub emitted : Reader → List ℕ → ℕ → Emitted
+emitted r bytes steps = record { reader = r; bytes = bytes; steps = steps }
 
 -- these bytes, in so many steps, and then what comes
-abbrev pub behind : List ℕ → ℕ → Told → Told
-behind bytes steps t = record { reader = t.reader; bytes = bytes ++ t.bytes; steps = steps + t.steps }
+abbrev pub preceded : List ℕ → ℕ → Emitted → Emitted
+preceded bytes steps t = record { reader = t.reader; bytes = bytes ++ t.bytes; steps = steps + t.steps }
 
 -- first the one, then the other
-abbrev pub then_told : Told → (Reader → Told) → Told
-then_told t next = behind t.bytes t.steps (next t.reader)
+abbrev pub then_emitted : Emitted → (Reader → Emitted) → Emitted
+then_emitted t next = preceded t.bytes t.steps (next t.reader)
 
 -- a page begins
 abbrev pub first_reader : Target → Reader
 first_reader table = record { half = first_half; pending = Nothing; table = table }
 
--- ---- a character is heard: it is met again until it is taken
+-- ---- a character is heard: it is offered again until it is taken
 
 abbrev pub with_half : Half → Reader → Reader
 with_half h r = record r { half = h }
 
-abbrev pub heard_in : ℕ → Coming → Reader → Told
-heard_in zero coming r = told r [] 0
+abbrev pub heard_in : ℕ → Coming → Reader → Emitted
+heard_in zero coming r = emitted r [] 0
 heard_in (suc n) coming r =
-    let m = meet coming r.half in
-    behind (bytes_of r.table m.said) 1 (if m.takes then told (with_half m.half r) [] 0
+    let m = offer coming r.half in
+    preceded (bytes_of r.table m.said) 1 (if m.takes then emitted (with_half m.half r) [] 0
     else heard_in n coming (with_half m.half r))
 
 -- six times are enough: an escape that is none, and words that end and begin
-unfoldable pub heard : Coming → Reader → Told
+unfoldable pub heard : Coming → Reader → Emitted
 heard coming r = heard_in 6 coming r
 
 -- ---- characters of several bytes
@@ -85,56 +85,56 @@ abbrev pub three_code : ℕ → ℕ → ℕ → ℕ
 three_code a b c = (a % 16) * 4096 + low_six b * 64 + low_six c
 
 -- a byte that is no part of one comes as Latin-1
-abbrev pub stray : ℕ → Reader → Told
+abbrev pub stray : ℕ → Reader → Emitted
 stray b r = heard (Wide b) r
 
 abbrev pub pending_with : Pending → Reader → Reader
 pending_with pending r = record r { pending = pending }
 
-abbrev pub strays : Pending → Reader → Told
-strays Nothing r = told r [] 0
+abbrev pub strays : Pending → Reader → Emitted
+strays Nothing r = emitted r [] 0
 strays (One a) r = stray a r
-strays (Two a b) r = then_told (stray a r) (λ s. stray b s)
-strays (Three a b c) r = then_told (then_told (stray a r) (λ s. stray b s)) (λ s. stray c s)
+strays (Two a b) r = then_emitted (stray a r) (λ s. stray b s)
+strays (Three a b c) r = then_emitted (then_emitted (stray a r) (λ s. stray b s)) (λ s. stray c s)
 
 -- what was read of a character was none
-abbrev pub pending_heard : Reader → Told
+abbrev pub pending_heard : Reader → Emitted
 pending_heard r = strays r.pending (pending_with Nothing r)
 
-abbrev pub fresh : ℕ → Reader → Told
+abbrev pub fresh : ℕ → Reader → Emitted
 fresh b r =
     if nat_lt b 127 then heard (Byte b) r else
-    if is_lead b then told (pending_with (One b) r) [] 0 else stray b r
+    if is_lead b then emitted (pending_with (One b) r) [] 0 else stray b r
 
-abbrev pub apart : ℕ → Reader → Told
-apart b r = then_told (pending_heard r) (λ s. fresh b s)
+abbrev pub apart : ℕ → Reader → Emitted
+apart b r = then_emitted (pending_heard r) (λ s. fresh b s)
 
-abbrev pub whole : ℕ → Reader → Told
+abbrev pub whole : ℕ → Reader → Emitted
 whole c r = heard (Wide c) (pending_with Nothing r)
 
 -- by what is pending
-abbrev pub heard_after : Pending → ℕ → Reader → Told
+abbrev pub heard_after : Pending → ℕ → Reader → Emitted
 heard_after Nothing b r = apart b r
 heard_after (One a) b r =
     if is_second a b
-    then (if nat_lt a 224 then whole ((a % 32) * 64 + low_six b) r else told (pending_with (Two a b) r) [] 0)
+    then (if nat_lt a 224 then whole ((a % 32) * 64 + low_six b) r else emitted (pending_with (Two a b) r) [] 0)
     else apart b r
 heard_after (Two a b) c r =
     if is_tail c
     then (if nat_lt a 240 then whole ((a % 16) * 4096 + low_six b * 64 + low_six c) r
-    else told (pending_with (Three a b c) r) [] 0)
+    else emitted (pending_with (Three a b c) r) [] 0)
     else apart c r
 heard_after (Three a b c) d r =
     if is_tail d then whole ((a % 8) * 262144 + low_six b * 4096 + low_six c * 64 + low_six d) r
     else apart d r
 
-abbrev pub heard_byte : ℕ → Reader → Told
+abbrev pub heard_byte : ℕ → Reader → Emitted
 heard_byte b r = heard_after r.pending b r
 
 -- ---- a byte, and the end
 
-abbrev pub read : ℕ → Reader → Told
-read b r = if is_raw r.half.line then told (with_half (passing b r.half) r) (sent r.table b ∷ []) 1
+abbrev pub read : ℕ → Reader → Emitted
+read b r = if is_raw r.half.line then emitted (with_half (passing b r.half) r) (sent r.table b ∷ []) 1
     else heard_byte b r
 
 -- a name that is half read
@@ -154,9 +154,9 @@ finished r = (pending_heard r).bytes ++ ended (pending_heard r).reader
 
 -- ---- many bytes
 
-abbrev pub fed : Reader → List ℕ → Told
-fed r [] = told r [] 0
-fed r (b ∷ bs) = then_told (read b r) (λ s. fed s bs)
+abbrev pub fed : Reader → List ℕ → Emitted
+fed r [] = emitted r [] 0
+fed r (b ∷ bs) = then_emitted (read b r) (λ s. fed s bs)
 
 -- ---- bytes are taken one after another
 

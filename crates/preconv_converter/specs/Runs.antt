@@ -17,7 +17,7 @@ use Rattle.preconv_converter.specs.Faces.{faced}
 use Rattle.preconv_converter.specs.Numbers.{is_within}
 use Rattle.preconv_converter.specs.declared.beginnings.Opens.{Opens}
 use Rattle.preconv_converter.specs.Lines.{ends_name, opening}
-use Rattle.preconv_converter.specs.Meeting.{taken_as_is}
+use Rattle.preconv_converter.specs.Offering.{taken_as_is}
 use Rattle.preconv_converter.specs.declared.words.Place.{Place}
 use Rattle.preconv_converter.specs.declared.words.Place.TheVariants.{Between}
 use Rattle.preconv_converter.specs.Words.{class_of, goes_on_with, begins_word, inside}
@@ -110,15 +110,15 @@ abbrev pub name_len : List ℕ → Half → ℕ
 name_len bs h = if is_plain h.escape && is_start h.line then dotted_len bs else 0
 
 -- the dot and the name were read
-abbrev pub behind_name : List ℕ → Half → Half
-behind_name name h = record (placed Stop h) { conditional = false; name = name; line = lines.Name }
+abbrev pub after_name : List ℕ → Half → Half
+after_name name h = record (placed Stop h) { conditional = false; name = name; line = lines.Name }
 
 abbrev pub is_end : ℕ → Bool
 is_end b = (b == code " ") || (b == code "\n")
 
 -- the dot, a name that opens so, and what ended it
 abbrev pub after_control : Opens → ℕ → Half → Half
-after_control o b h = taken_as_is b (opening o b (behind_name [] h))
+after_control o b h = taken_as_is b (opening o b (after_name [] h))
 
 -- ---- comments that begin a line
 

@@ -6,17 +6,17 @@ use Rattle.preconv_converter.specs.declared.half.Half.{Half}
 use Rattle.preconv_converter.specs.declared.half.Escape.TheVariants as escapes
 use Rattle.preconv_converter.specs.declared.half.Kind.{Kind}
 use Rattle.preconv_converter.specs.declared.half.Kind.TheVariants as kinds
-use Rattle.preconv_converter.specs.Half.{Met, taken, left, without_escape, in_text, abandoned}
+use Rattle.preconv_converter.specs.Half.{Offered, taken, left, without_escape, in_text, abandoned}
 use Rattle.preconv_converter.specs.Endings.{keeping, spelling, going_on, ended_kept}
 use Rattle.preconv_converter.specs.Faces.{font_named}
 use Rattle.preconv_converter.specs.Named.{named}
 
 -- a name of one byte; the language has sizes of one digit
-abbrev pub named_once : Kind → Half → Met
+abbrev pub named_once : Kind → Half → Offered
 named_once kinds.Size h = ended_kept h
 named_once kind h = named kind h
 
-abbrev pub named_by : Kind → ℕ → Half → Met
+abbrev pub named_by : Kind → ℕ → Half → Offered
 named_by kind b h = named_once kind (spelling b (keeping b h))
 
 abbrev pub has_sign : Kind → Bool
@@ -38,24 +38,24 @@ gives_name b =
     (b == code "*") || (b == code "n") || (b == code "$") || (b == code "\\") || (b == code "\"") || (b == code "#")
     || (b == code "\n")
 
-abbrev pub escaped : Kind → Half → Met
+abbrev pub escaped : Kind → Half → Offered
 escaped kinds.Font h = going_on (code "\\") escapes.FontEscape (spelling (code "\\") h)
 escaped kind h = abandoned h
 
 -- The name of no font: what comes is text.
-abbrev pub font_left : Half → Met
+abbrev pub font_left : Half → Offered
 font_left h = record (font_named h) { takes = false }
 
-abbrev pub font_given : Half → Met
+abbrev pub font_given : Half → Offered
 font_given h =
     left (says.Kept (take (length h.kept - 1) h.kept))
     (record (in_text (without_escape h)) { escape = escapes.Begun; kept = code "\\" ∷ [] })
 
-abbrev pub font_escape : ℕ → Half → Met
+abbrev pub font_escape : ℕ → Half → Offered
 font_escape b h = if gives_name b then font_given h else font_left h
 
 -- One that another escape gives, as `\f\*B`, is left to the formatter; before any other letter the backslash itself is a font's name.
-abbrev pub target : Kind → ℕ → Half → Met
+abbrev pub target : Kind → ℕ → Half → Offered
 target kind b h =
     if b == code "\n" then abandoned h else
     if (b == code "\\") && not (is_dropped kind) then escaped kind h else
@@ -64,10 +64,10 @@ target kind b h =
     if ((b == code "+") || (b == code "-")) && has_sign kind then going_on b (escapes.Target kind) h else
     if (b == code "'") && is_size kind then going_on b (escapes.Delimited kind b) h else named_by kind b h
 
-abbrev pub paired : Kind → Half → Met
+abbrev pub paired : Kind → Half → Offered
 paired kind h = if length h.spelled == 2 then named kind h else taken says.Nothing h
 
-abbrev pub pair : Kind → ℕ → Half → Met
+abbrev pub pair : Kind → ℕ → Half → Offered
 pair kind b h = if b == code "\n" then abandoned h else paired kind (spelling b (keeping b h))
 
 -- what hangs by an escape in another is read as it stands
@@ -75,20 +75,20 @@ abbrev pub is_hang_kind : Kind → Bool
 is_hang_kind kinds.Hang = true
 is_hang_kind kind = false
 
-abbrev pub spelled_up_to : ℕ → Kind → ℕ → Half → Met
+abbrev pub spelled_up_to : ℕ → Kind → ℕ → Half → Offered
 spelled_up_to end kind b h =
     if b == code "\n" then abandoned h else
     if (b == code "\\") && is_hang_kind kind then abandoned h else
     if b == end then named kind (keeping b h) else taken says.Nothing (spelling b (keeping b h))
 
-abbrev pub delimiter : Kind → ℕ → Half → Met
+abbrev pub delimiter : Kind → ℕ → Half → Offered
 delimiter kind b h = if b == code "\n" then abandoned h else going_on b (escapes.Delimited kind b) h
 
-abbrev pub bracketed : Kind → ℕ → Half → Met
+abbrev pub bracketed : Kind → ℕ → Half → Offered
 bracketed kind b h =
     if b == code "[" then going_on b (escapes.Nested kind) h else spelled_up_to (code "]") kind b h
 
-abbrev pub nested : Kind → ℕ → Half → Met
+abbrev pub nested : Kind → ℕ → Half → Offered
 nested kind b h =
     if b == code "\n" then abandoned h else
     if b == code "]" then going_on b (escapes.Bracket kind) h else taken says.Nothing (keeping b h)

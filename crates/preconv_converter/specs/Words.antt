@@ -5,7 +5,7 @@ use Rattle.std.specs.Prelude.{ℕ, ◌+◌, Bool, true, false, not, ◌==◌, �
 use Rattle.preconv_converter.specs.declared.said.Said.{Said}
 use Rattle.preconv_converter.specs.declared.said.Said.TheVariants.{Nothing, Byte, Escape, Quotes, Font}
 use Rattle.preconv_converter.specs.declared.words.Words.{Words}
-use Rattle.preconv_converter.specs.declared.words.Told.{Told}
+use Rattle.preconv_converter.specs.declared.words.Emitted.{Emitted}
 use Rattle.preconv_converter.specs.declared.words.Fonts.{Fonts}
 use Rattle.preconv_converter.specs.declared.words.Fonts.TheVariants.{One, Same, Turn, Tag}
 use Rattle.preconv_converter.specs.declared.words.Place.{Place}
@@ -88,8 +88,8 @@ after_space place = place
 abbrev pub taken_as_is : ℕ → Words → Words
 taken_as_is b w = if b == code " " then words_at (after_space w.place) w else w
 
-abbrev pub told : Place → Said → Bool → Words → Told
-told place said takes w = record { words = words_at place w; said = said; takes = takes }
+abbrev pub emitted : Place → Said → Bool → Words → Emitted
+emitted place said takes w = record { words = words_at place w; said = said; takes = takes }
 
 -- ---- a word begins
 
@@ -104,7 +104,7 @@ abbrev pub font_said : Words → Said
 font_said w = turned w.fonts w.second
 
 -- before the ninth a quote goes out
-abbrev pub begun : Words → Told
+abbrev pub begun : Words → Emitted
 begun w =
     if nat_le 9 w.count
     then record {
@@ -135,10 +135,10 @@ abbrev pub quoted_said : Said → Said → Words → Said
 quoted_said said ninth w = if is_ninth w then ninth else said
 
 -- what stands right after a last quote is a word of its own
-abbrev pub met_closing : Class → Said → Words → Told
-met_closing Quote said w = told Quoted (quoted_said said Quotes w) true w
-met_closing Space said w = told Between (blank_said said w) true w
-met_closing Other said w = told Between (blank_said (Byte (code " ")) w) false w
+abbrev pub offered_closing : Class → Said → Words → Emitted
+offered_closing Quote said w = emitted Quoted (quoted_said said Quotes w) true w
+offered_closing Space said w = emitted Between (blank_said said w) true w
+offered_closing Other said w = emitted Between (blank_said (Byte (code " ")) w) false w
 
 -- After a quote with which a word begins. Blanks before the first word of a filled line are dropped: after the first quote
 -- they are printed, as are those between words.
@@ -146,19 +146,19 @@ abbrev pub after_quote : Words → Place
 after_quote w = if w.count == 1 then Opened else Quoted
 
 -- by where it comes, and what it is
-abbrev pub met_at : Place → Class → Said → Words → Told
-met_at Between Space said w = told Between (blank_said said w) true w
-met_at Between class said w = begun w
-met_at Begun Quote said w = told (after_quote w) (quoted_said said Nothing w) true w
-met_at Begun class said w = told Inside Nothing false w
-met_at Inside Space said w = told Between (blank_said said w) true w
-met_at Inside Quote said w = told Inside (quoted_said said Quotes w) true w
-met_at Inside Other said w = told Inside said true w
-met_at Opened Space said w = told Quoted (Escape (code "&")) false w
-met_at Opened class said w = told Quoted Nothing false w
-met_at Quoted Quote said w = told Closing (quoted_said said Nothing w) true w
-met_at Quoted class said w = told Quoted said true w
-met_at Closing class said w = met_closing class said w
+abbrev pub offered_at : Place → Class → Said → Words → Emitted
+offered_at Between Space said w = emitted Between (blank_said said w) true w
+offered_at Between class said w = begun w
+offered_at Begun Quote said w = emitted (after_quote w) (quoted_said said Nothing w) true w
+offered_at Begun class said w = emitted Inside Nothing false w
+offered_at Inside Space said w = emitted Between (blank_said said w) true w
+offered_at Inside Quote said w = emitted Inside (quoted_said said Quotes w) true w
+offered_at Inside Other said w = emitted Inside said true w
+offered_at Opened Space said w = emitted Quoted (Escape (code "&")) false w
+offered_at Opened class said w = emitted Quoted Nothing false w
+offered_at Quoted Quote said w = emitted Closing (quoted_said said Nothing w) true w
+offered_at Quoted class said w = emitted Quoted said true w
+offered_at Closing class said w = offered_closing class said w
 
-abbrev pub met_words : Class → Said → Words → Told
-met_words class said w = met_at w.place class said w
+abbrev pub offered_words : Class → Said → Words → Emitted
+offered_words class said w = offered_at w.place class said w

@@ -1,6 +1,6 @@
 //! Conditions: groff's on names become 1 or 0.
 ghost use Rattle.std.specs.Prelude.{◌≡◌};
-ghost use Rattle.preconv_converter.specs.Half.{met};
+ghost use Rattle.preconv_converter.specs.Half.{offered};
 ghost use Rattle.preconv_converter.specs.Conditions as specs;
 
 use super::beginnings::is_known;
@@ -12,7 +12,7 @@ use nr_units::Name;
 impl Half {
     /// A condition on a name begins.
     fn asks(&mut self, asked: Asked) -> Seen
-        ensures { met self.new result ≡ specs.asking asked self.old }
+        ensures { offered self.new result ≡ specs.asking asked self.old }
     {
         self.line = Line::Asked(asked);
         self.name = Name::new();
@@ -21,7 +21,7 @@ impl Half {
 
     /// A byte before a condition, or its first.
     pub(crate) fn before_condition(&mut self, byte: u8) -> Seen
-        ensures { met self.new result ≡ specs.before_condition byte self.old }
+        ensures { offered self.new result ≡ specs.before_condition byte self.old }
     {
         match byte {
             b'\n' => self.says(byte, Line::Start),
@@ -38,7 +38,7 @@ impl Half {
 
     /// A byte of a number that is a condition.
     pub(crate) fn in_number(&mut self, byte: u8) -> Seen
-        ensures { met self.new result ≡ specs.in_number byte self.old }
+        ensures { offered self.new result ≡ specs.in_number byte self.old }
     {
         match byte {
             b'\n' => self.says(byte, Line::Start),
@@ -49,7 +49,7 @@ impl Half {
 
     /// A byte of strings that are compared.
     pub(crate) fn in_strings(&mut self, delimiter: u8, ended: bool, byte: u8) -> Seen
-        ensures { met self.new result ≡ specs.in_strings delimiter ended byte self.old }
+        ensures { offered self.new result ≡ specs.in_strings delimiter ended byte self.old }
     {
         if byte == b'\n' {
             return self.says(byte, Line::Start);
@@ -77,7 +77,7 @@ impl Half {
 
     /// The name has ended.
     fn answers(&mut self, asked: Asked, line: Line) -> Seen
-        ensures { met self.new result ≡ specs.answering asked line self.old }
+        ensures { offered self.new result ≡ specs.answering asked line self.old }
     {
         let said = Said::Byte(self.answer(asked));
         self.line = line;
@@ -86,7 +86,7 @@ impl Half {
 
     /// A byte of the name that a condition asks for.
     pub(crate) fn in_asked(&mut self, asked: Asked, byte: u8) -> Seen
-        ensures { met self.new result ≡ specs.in_asked asked byte self.old }
+        ensures { offered self.new result ≡ specs.in_asked asked byte self.old }
     {
         match byte {
             b'\n' => self.answers(asked, Line::Request),

@@ -1,6 +1,6 @@
 //! How an escape goes on and ends.
 ghost use Rattle.std.specs.Prelude.{◌≡◌};
-ghost use Rattle.preconv_converter.specs.Half.{abandoned, met, without_escape};
+ghost use Rattle.preconv_converter.specs.Half.{abandoned, offered, without_escape};
 ghost use Rattle.preconv_converter.specs.Endings as specs;
 
 use super::half::{Escape, Half, Mark, Seen};
@@ -36,7 +36,7 @@ impl Half {
 
     /// The escape goes on after a byte.
     pub(crate) fn goes_on(&mut self, byte: u8, escape: Escape) -> Seen
-        ensures { met self.new result ≡ specs.going_on byte escape self.old }
+        ensures { offered self.new result ≡ specs.going_on byte escape self.old }
     {
         self.keep(byte);
         self.escape = escape;
@@ -45,7 +45,7 @@ impl Half {
 
     /// The escape has ended, and this is said for it.
     pub(crate) fn ended(&mut self, said: Said) -> Seen
-        ensures { met self.new result ≡ specs.ended said self.old }
+        ensures { offered self.new result ≡ specs.ended said self.old }
     {
         self.forget();
         self.line = self.line.with_text();
@@ -54,7 +54,7 @@ impl Half {
 
     /// It was that of a font, for which this is said.
     pub(crate) fn ended_font(&mut self, said: Said) -> Seen
-        ensures { met self.new result ≡ specs.ended_font said self.old }
+        ensures { offered self.new result ≡ specs.ended_font said self.old }
     {
         self.forget();
         self.line = self.line.with_font();
@@ -63,7 +63,7 @@ impl Half {
 
     /// It has ended, and goes out as it was kept.
     pub(crate) fn ended_kept(&mut self) -> Seen
-        ensures { met self.new result ≡ specs.ended_kept self.old }
+        ensures { offered self.new result ≡ specs.ended_kept self.old }
     {
         self.places(Mark::Other);
         let kept = self.kept;
@@ -72,7 +72,7 @@ impl Half {
 
     /// It ends with this byte, and goes out as it is.
     pub(crate) fn ends_with(&mut self, byte: u8) -> Seen
-        ensures { met self.new result ≡ specs.ends_with byte self.old }
+        ensures { offered self.new result ≡ specs.ends_with byte self.old }
     {
         self.keep(byte);
         self.ended_kept()
@@ -80,7 +80,7 @@ impl Half {
 
     /// It has ended, and nothing is said for it, but what keeps a text line from being taken for another.
     pub(crate) fn dropped(&mut self) -> Seen
-        ensures { met self.new result ≡ specs.dropped self.old }
+        ensures { offered self.new result ≡ specs.dropped self.old }
     {
         let said = if self.line.is_beginning() {
             Said::Escape(b'&')
@@ -92,7 +92,7 @@ impl Half {
 
     /// It is none: what was kept goes out, and the character that comes is read anew.
     pub(crate) fn abandoned(&mut self) -> Seen
-        ensures { met self.new result ≡ abandoned self.old }
+        ensures { offered self.new result ≡ abandoned self.old }
     {
         let kept = self.kept;
         let ended = self.ended(Said::Kept(kept));
@@ -101,7 +101,7 @@ impl Half {
 
     /// It has ended, and goes out as it was kept, or as the byte of this character.
     pub(crate) fn kept_or(&mut self, code: u32) -> Seen
-        ensures { met self.new result ≡ specs.kept_or code self.old }
+        ensures { offered self.new result ≡ specs.kept_or code self.old }
     {
         self.places(Mark::Other);
         let kept = self.kept;

@@ -1,6 +1,6 @@
 //! Escapes.
 ghost use Rattle.std.specs.Prelude.{◌≡◌};
-ghost use Rattle.preconv_converter.specs.Half.{met};
+ghost use Rattle.preconv_converter.specs.Half.{offered};
 ghost use Rattle.preconv_converter.specs.Escapes as specs;
 
 use super::half::{Escape, Half, Mark, Seen};
@@ -9,7 +9,7 @@ use super::said::Said;
 impl Half {
     /// A byte after `\$`.
     fn argument(&mut self, byte: u8) -> Seen
-        ensures { met self.new result ≡ specs.argument byte self.old }
+        ensures { offered self.new result ≡ specs.argument byte self.old }
     {
         let doubled = self.kept.len() > 2;
         match byte {
@@ -28,7 +28,7 @@ impl Half {
 
     /// A byte of a note, whose newline is hidden.
     fn noted(&mut self, byte: u8) -> Seen
-        ensures { met self.new result ≡ specs.noted byte self.old }
+        ensures { offered self.new result ≡ specs.noted byte self.old }
     {
         if byte == b'\n' {
             return self.newline_hidden();
@@ -38,7 +38,7 @@ impl Half {
 
     /// A byte that comes while an escape is half read. One that is longer than what is kept goes out.
     pub(crate) fn in_escape(&mut self, byte: u8) -> Seen
-        ensures { met self.new result ≡ specs.in_escape byte self.old }
+        ensures { offered self.new result ≡ specs.in_escape byte self.old }
     {
         if self.kept.is_full() {
             return self.abandoned();

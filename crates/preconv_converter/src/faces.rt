@@ -1,6 +1,6 @@
 //! Which font a page is in, so that a name that is no font keeps it.
 ghost use Rattle.std.specs.Prelude.{◌≡◌};
-ghost use Rattle.preconv_converter.specs.Half.{met};
+ghost use Rattle.preconv_converter.specs.Half.{offered};
 ghost use Rattle.preconv_converter.specs.Faces as specs;
 
 use super::glyphs::font_of;
@@ -49,7 +49,7 @@ impl Half {
 
     /// The name of a font in an escape has ended.
     pub(crate) fn font(&mut self) -> Seen
-        ensures { met self.new result ≡ specs.font_named self.old }
+        ensures { offered self.new result ≡ specs.font_named self.old }
     {
         let letter = self.named_face(self.spelled);
         self.faces(letter);
@@ -58,7 +58,7 @@ impl Half {
 
     /// The name of a font in a line of `.ft` has ended.
     pub(crate) fn face_ends(&mut self) -> Seen
-        ensures { met self.new result ≡ specs.face_ended self.old }
+        ensures { offered self.new result ≡ specs.face_ended self.old }
     {
         let name = self.name;
         let letter = self.named_face(name);
@@ -73,7 +73,7 @@ impl Half {
 
     /// A byte of a line of `.ft`.
     pub(crate) fn in_face(&mut self, byte: u8) -> Seen
-        ensures { met self.new result ≡ specs.in_face byte self.old }
+        ensures { offered self.new result ≡ specs.in_face byte self.old }
     {
         match byte {
             b'\n' => self.face_ends(),
@@ -92,7 +92,7 @@ impl Half {
 
     /// An escape names the font: which it is isn't known.
     fn face_unknown(&mut self) -> Seen
-        ensures { met self.new result ≡ specs.face_unknown self.old }
+        ensures { offered self.new result ≡ specs.face_unknown self.old }
     {
         self.font = b'R';
         self.previous = b'R';

@@ -1,7 +1,7 @@
 //! What is half read of a page.
 ghost use Rattle.std.specs.Prelude.{◌≡◌, true, false};
 ghost use Rattle.preconv_converter.specs.Named.{is_delimited};
-ghost use Rattle.preconv_converter.specs.Half.{after_other, character_said, first_half, is_beginning, is_read, is_space, is_text, is_whole, marked_said, next_line, table_behind, takes_brace, with_font, with_format, with_text};
+ghost use Rattle.preconv_converter.specs.Half.{after_other, character_said, first_half, is_beginning, is_read, is_space, is_text, is_whole, marked_said, next_line, table_after, takes_brace, with_font, with_format, with_text};
 
 use super::composed::Marked;
 use super::likeness::is_blank;
@@ -218,7 +218,7 @@ pub(crate) enum Coming {
     Wide(u32),
 }
 
-/// What a character says, and whether it is taken: one that is left is met again.
+/// What a character says, and whether it is taken: one that is left is offered again.
 #[derive(Clone, Copy)]
 pub(crate) struct Seen {
     /// What goes out.
@@ -413,7 +413,7 @@ impl Table {
 
     /// What is read of it when a line ends, before whose end this stands: a format ends with a dot.
     pub(crate) fn next_line(self, before: Before) -> Table
-        ensures { result ≡ table_behind self before }
+        ensures { result ≡ table_after self before }
     {
         match (self, before) {
             (Table::Format, Before::Character(Mark::Stop)) => Table::Rows,

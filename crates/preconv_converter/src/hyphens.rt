@@ -1,6 +1,6 @@
 //! Hyphens of a manual page: a line may be broken after one only where it stands between two letters.
 ghost use Rattle.std.specs.Prelude.{◌≡◌, true};
-ghost use Rattle.preconv_converter.specs.Half.{met};
+ghost use Rattle.preconv_converter.specs.Half.{offered};
 ghost use Rattle.preconv_converter.specs.Hyphens as specs;
 
 use super::half::{Before, Escape, Half, Line, Mark, Seen, Table};
@@ -183,7 +183,7 @@ impl Half {
 
     /// A hyphen among words of which this is a tag or none, or in text. In a tag or an address no line is broken after it.
     pub(crate) fn hyphen(&mut self, line: Line) -> Seen
-        ensures { met self.new result ≡ specs.hyphen line self.old }
+        ensures { offered self.new result ≡ specs.hyphen line self.old }
     {
         self.line = line;
         if !has_hyphens(line) {
@@ -197,7 +197,7 @@ impl Half {
 
     /// A hyphen in the format of a table. After a bracket, as in `tab(-)`, it separates fields.
     fn format_hyphen(&mut self) -> Seen
-        ensures { met self.new result ≡ specs.hyphen_at true self.old.before self.old }
+        ensures { offered self.new result ≡ specs.hyphen_at true self.old.before self.old }
     {
         self.table = match self.before {
             Before::Character(Mark::Opening) => Table::Separated,
@@ -209,7 +209,7 @@ impl Half {
 
     /// One in text, or in a word that is text.
     fn text_hyphen(&mut self) -> Seen
-        ensures { met self.new result ≡ specs.hyphen_by self.old.before self.old }
+        ensures { offered self.new result ≡ specs.hyphen_by self.old.before self.old }
     {
         let whole = self.tag.is_whole();
         match self.before {
@@ -233,7 +233,7 @@ impl Half {
 
     /// A byte after a letter and a hyphen. After an escape, which may be that of a font, it stays as well.
     pub(crate) fn after_hyphen(&mut self, byte: u8) -> Seen
-        ensures { met self.new result ≡ specs.after_hyphen byte self.old }
+        ensures { offered self.new result ≡ specs.after_hyphen byte self.old }
     {
         if is_ascii_letter(byte) || byte == b'\\' {
             return self.abandoned();
@@ -244,7 +244,7 @@ impl Half {
 
     /// A byte goes out as it is, and the line goes on so.
     pub(crate) fn says(&mut self, byte: u8, line: Line) -> Seen
-        ensures { met self.new result ≡ specs.saying byte line self.old }
+        ensures { offered self.new result ≡ specs.saying byte line self.old }
     {
         self.goes_by(byte);
         self.line = line;
@@ -253,7 +253,7 @@ impl Half {
 
     /// A byte of a text line.
     pub(crate) fn in_text(&mut self, byte: u8) -> Seen
-        ensures { met self.new result ≡ specs.in_text byte self.old }
+        ensures { offered self.new result ≡ specs.in_text byte self.old }
     {
         if self.is_moved(byte) {
             return self.moved(byte);

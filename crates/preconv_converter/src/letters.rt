@@ -1,6 +1,6 @@
 //! What an escape is by the byte after its backslash.
 ghost use Rattle.std.specs.Prelude.{◌≡◌};
-ghost use Rattle.preconv_converter.specs.Half.{met};
+ghost use Rattle.preconv_converter.specs.Half.{offered};
 ghost use Rattle.preconv_converter.specs.Hyphens.{may_hang};
 ghost use Rattle.preconv_converter.specs.Letters as specs;
 
@@ -32,7 +32,7 @@ fn is_skipped(byte: u8) -> bool
 impl Half {
     /// A comment begins.
     fn comment(&mut self, said: Said) -> Seen
-        ensures { met self.new result ≡ specs.comment said self.old }
+        ensures { offered self.new result ≡ specs.comment said self.old }
     {
         self.forget();
         self.before = Before::Character(Mark::Other);
@@ -42,7 +42,7 @@ impl Half {
 
     /// A newline after a backslash. Where nothing of a line has begun after a condition, it is dropped.
     pub(crate) fn newline_hidden(&mut self) -> Seen
-        ensures { met self.new result ≡ specs.newline_hidden self.old }
+        ensures { offered self.new result ≡ specs.newline_hidden self.old }
     {
         self.keep(b'\n');
         let kept = self.kept;
@@ -55,7 +55,7 @@ impl Half {
 
     /// `\{` or the like, with one backslash or more.
     fn brace(&mut self) -> Seen
-        ensures { met self.new result ≡ specs.brace self.old }
+        ensures { offered self.new result ≡ specs.brace self.old }
     {
         let braced = self.line.takes_brace();
         let seen = self.ends_with(b'{');
@@ -67,7 +67,7 @@ impl Half {
 
     /// `\` and a blank, or a blank that can't break: in a control line it must not end a word.
     fn blank(&mut self) -> Seen
-        ensures { met self.new result ≡ specs.blank self.old }
+        ensures { offered self.new result ≡ specs.blank self.old }
     {
         let byte = if self.line.is_text() { b' ' } else { b'0' };
         self.places(Mark::Other);
@@ -76,7 +76,7 @@ impl Half {
 
     /// `\'`, an acute accent.
     fn acute(&mut self) -> Seen
-        ensures { met self.new result ≡ specs.acute self.old }
+        ensures { offered self.new result ≡ specs.acute self.old }
     {
         self.keep(b'\'');
         self.kept_or(u32::from('´'))
@@ -84,7 +84,7 @@ impl Half {
 
     /// A backslash after another. Copying a macro's word makes one of both, so that a hyphen after it is a minus sign.
     fn backslash(&mut self) -> Seen
-        ensures { met self.new result ≡ specs.backslash self.old }
+        ensures { offered self.new result ≡ specs.backslash self.old }
     {
         self.keep(b'\\');
         let kept = self.kept;
@@ -96,7 +96,7 @@ impl Half {
     /// `\.`: where a text line begins with it, a control character. In a definition it may be that of a line within,
     /// and in a table it begins a row.
     fn dot(&mut self) -> Seen
-        ensures { met self.new result ≡ specs.dot self.old }
+        ensures { offered self.new result ≡ specs.dot self.old }
     {
         if self.defining || self.table.is_read() || !matches!(self.line, Line::Start) {
             return self.ends_with(b'.');
@@ -114,7 +114,7 @@ impl Half {
 
     /// Such a letter. By `\h` at the beginning of a line it may hang.
     fn measured(&mut self, byte: u8) -> Seen
-        ensures { met self.new result ≡ specs.measured byte self.old }
+        ensures { offered self.new result ≡ specs.measured byte self.old }
     {
         let hangs = byte == b'h' && self.may_hang();
         self.leaves_hyphens();
@@ -133,7 +133,7 @@ impl Half {
 
     /// A byte after a backslash.
     fn letter(&mut self, byte: u8) -> Seen
-        ensures { met self.new result ≡ specs.letter byte self.old }
+        ensures { offered self.new result ≡ specs.letter byte self.old }
     {
         match byte {
             b'(' => self.goes_on(byte, Escape::Pair(Kind::Glyph)),
@@ -177,13 +177,13 @@ impl Half {
 
     /// The line goes on before an escape is read.
     fn makes_way(&mut self) -> Seen
-        ensures { met self.new result ≡ specs.made_way self.old.line self.old }
+        ensures { offered self.new result ≡ specs.made_way self.old.line self.old }
     {
         match self.line {
             Line::Words(words) => {
-                let told = words.met(super::words::Class::Other, Said::Nothing);
-                self.line = Line::Words(told.words);
-                Seen::left(told.said)
+                let emitted = words.offered(super::words::Class::Other, Said::Nothing);
+                self.line = Line::Words(emitted.words);
+                Seen::left(emitted.said)
             }
             Line::Condition => {
                 self.line = Line::Number;
@@ -195,7 +195,7 @@ impl Half {
 
     /// A byte after one backslash or more.
     pub(crate) fn after_backslash(&mut self, byte: u8) -> Seen
-        ensures { met self.new result ≡ specs.after_backslash byte self.old }
+        ensures { offered self.new result ≡ specs.after_backslash byte self.old }
     {
         match byte {
             b'\n' => self.newline_hidden(),

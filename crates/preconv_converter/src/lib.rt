@@ -2,7 +2,7 @@
 //!
 //! It stands on nr_units, nr_vectors, utf8_characters, document_stages and unicode_normalization. To read: `numbers`, `pairs`, `glyphs`, `composed`; `target`, `signs`, `likeness`, `said`; `words`, `half`;
 //! `beginnings`, `hyphens`, `sentences`, `translations`, `lines`, `conditions`; `endings`, `faces`, `skipping`, `letters`,
-//! `named`, `spelling`, `escapes`; `meeting`, which puts them together; `runs`, `passing`, `reader`; `staged`, `running`;
+//! `named`, `spelling`, `escapes`; `offering`, which puts them together; `runs`, `passing`, `reader`; `staged`, `running`;
 //! `plain_text`, `word_laws`.
 #![tactic(auto)]
 
@@ -18,9 +18,9 @@ mod hyphens;
 mod letters;
 mod likeness;
 mod lines;
-mod meeting;
 mod named;
 mod numbers;
+mod offering;
 mod pairs;
 mod passing;
 mod plain_text;

@@ -1,7 +1,7 @@
 //! What a character looks like.
 ghost use Rattle.std.specs.Prelude.{◌≡◌, ◌+◌, ◌≤◌, ◌<◌, ◌++◌, length};
 ghost use Rattle.preconv_converter.specs.Targets.{byte_in_force, itself, shown};
-ghost use Rattle.preconv_converter.specs.Likeness.{ascii_like, before_nul, beyond_like, box_like, code_told, hex_digit, is_blank, is_latin_letter, is_mark, letter_in, likeness, marked_like, plain_letter, sign_like, sign_text, struck_like, text_in, word_text};
+ghost use Rattle.preconv_converter.specs.Likeness.{ascii_like, before_nul, beyond_like, box_like, code_emitted, hex_digit, is_blank, is_latin_letter, is_mark, letter_in, likeness, marked_like, plain_letter, sign_like, sign_text, struck_like, text_in, word_text};
 
 use super::composed::Marked;
 use super::signs::{LATIN, LATIN_ADDITIONAL, SIGNS, WORDS};
@@ -105,7 +105,7 @@ fn hex_digit(value: u32) -> u8
 /// Puts `<U+XXXX>`, at most ten bytes, after what goes out.
 fn put_code(code: u32, out: &mut SliceVec<'_, u8>)
     requires { length out.old.items + 10 ≤ out.old.capacity }
-    ensures items { out.new.items ≡ out.old.items ++ code_told code }
+    ensures items { out.new.items ≡ out.old.items ++ code_emitted code }
     ensures few { length out.new.items ≤ length out.old.items + 10 }
     ensures room { out.new.capacity ≡ out.old.capacity }
 {

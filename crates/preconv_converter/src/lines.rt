@@ -1,6 +1,6 @@
 //! Lines: control lines and their names, text lines, lines that pass as they are.
 ghost use Rattle.std.specs.Prelude.{◌≡◌};
-ghost use Rattle.preconv_converter.specs.Half.{met};
+ghost use Rattle.preconv_converter.specs.Half.{offered};
 ghost use Rattle.preconv_converter.specs.Lines as specs;
 
 use super::beginnings::{Opens, opened, said_name};
@@ -20,7 +20,7 @@ fn ends_name(byte: u8) -> bool
 impl Half {
     /// A control character begins a control line, after a condition or not.
     pub(crate) fn control(&mut self, conditional: bool, byte: u8) -> Seen
-        ensures { met self.new result ≡ specs.control conditional byte self.old }
+        ensures { offered self.new result ≡ specs.control conditional byte self.old }
     {
         self.name = Name::new();
         self.conditional = conditional;
@@ -37,7 +37,7 @@ impl Half {
     /// Before a line that is empty or begins with a blank, as this byte says, a request breaks, also where text stands
     /// beside the tag.
     fn breaks(&mut self, byte: u8) -> Seen
-        ensures { met self.new result ≡ specs.breaking byte self.old }
+        ensures { offered self.new result ≡ specs.breaking byte self.old }
     {
         self.tag = Tag::Nowhere;
         if byte == b'\n' {
@@ -48,7 +48,7 @@ impl Half {
 
     /// A byte at the beginning of a line.
     fn at_start(&mut self, byte: u8) -> Seen
-        ensures { met self.new result ≡ specs.at_start byte self.old }
+        ensures { offered self.new result ≡ specs.at_start byte self.old }
     {
         match byte {
             b'.' | b'\'' => self.control(false, byte),
@@ -60,7 +60,7 @@ impl Half {
 
     /// A byte after a condition.
     fn at_part(&mut self, byte: u8) -> Seen
-        ensures { met self.new result ≡ specs.at_part byte self.old }
+        ensures { offered self.new result ≡ specs.at_part byte self.old }
     {
         match byte {
             b'.' | b'\'' => self.control(true, byte),
@@ -75,7 +75,7 @@ impl Half {
 
     /// The name becomes this, and the line goes on so.
     fn names(&mut self, name: Name, line: Line) -> Seen
-        ensures { met self.new result ≡ specs.naming name line self.old }
+        ensures { offered self.new result ≡ specs.naming name line self.old }
     {
         self.name = name;
         self.line = line;
@@ -84,7 +84,7 @@ impl Half {
 
     /// The blanks that were kept go out, and the line goes on so.
     fn blanks_said(&mut self, line: Line) -> Seen
-        ensures { met self.new result ≡ specs.blanks_said line self.old }
+        ensures { offered self.new result ≡ specs.blanks_said line self.old }
     {
         let blanks = self.name;
         self.name = Name::new();
@@ -95,7 +95,7 @@ impl Half {
     /// A byte after a control character and blanks. In a definition these are dropped before another
     /// control character, which ends it.
     fn after_control(&mut self, byte: u8) -> Seen
-        ensures { met self.new result ≡ specs.after_control byte self.old }
+        ensures { offered self.new result ≡ specs.after_control byte self.old }
     {
         if byte == b'.' && self.defining {
             return self.names(Name::of(b"."), Line::Name);
@@ -162,7 +162,7 @@ impl Half {
 
     /// The name has ended before this byte.
     fn named_line(&mut self, byte: u8) -> Seen
-        ensures { met self.new result ≡ specs.named_line byte self.old }
+        ensures { offered self.new result ≡ specs.named_line byte self.old }
     {
         let name = self.name;
         let opens = opened(name.as_bytes());
@@ -173,7 +173,7 @@ impl Half {
 
     /// A byte of a name, or after it.
     fn in_name(&mut self, byte: u8) -> Seen
-        ensures { met self.new result ≡ specs.in_name byte self.old }
+        ensures { offered self.new result ≡ specs.in_name byte self.old }
     {
         if ends_name(byte) || self.name.is_full() {
             return self.named_line(byte);
@@ -184,7 +184,7 @@ impl Half {
 
     /// A byte of the rest of a line.
     fn in_rest(&mut self, byte: u8) -> Seen
-        ensures { met self.new result ≡ specs.in_rest byte self.old }
+        ensures { offered self.new result ≡ specs.in_rest byte self.old }
     {
         if byte == b'\r' {
             return Seen::taken(Said::Nothing);
@@ -199,7 +199,7 @@ impl Half {
 
     /// A byte of a text line of which only fonts were read. Blanks there are printed, as are those between words.
     fn after_fonts(&mut self, byte: u8) -> Seen
-        ensures { met self.new result ≡ specs.after_fonts byte self.old }
+        ensures { offered self.new result ≡ specs.after_fonts byte self.old }
     {
         if byte == b' ' && !self.table.is_read() {
             self.line = Line::Text;
@@ -211,19 +211,19 @@ impl Half {
     /// A character among words that goes out as `said` elsewhere.
     #[inline(always)]
     fn among_words(&mut self, words: Words, class: Class, said: Said) -> Seen
-        ensures { met self.new result ≡ specs.among_words words class said self.old }
+        ensures { offered self.new result ≡ specs.among_words words class said self.old }
     {
-        let told = words.met(class, said);
-        self.line = Line::Words(told.words);
+        let emitted = words.offered(class, said);
+        self.line = Line::Words(emitted.words);
         Seen {
-            said: told.said,
-            takes: told.takes,
+            said: emitted.said,
+            takes: emitted.takes,
         }
     }
 
     /// A byte among words that is dropped or translated.
     fn word_moved(&mut self, words: Words, byte: u8) -> Seen
-        ensures { met self.new result ≡ specs.word_moved words byte self.old }
+        ensures { offered self.new result ≡ specs.word_moved words byte self.old }
     {
         if byte == b'\r' {
             return Seen::taken(Said::Nothing);
@@ -237,7 +237,7 @@ impl Half {
     /// A byte among words. The ninth has its last quote before the newline.
     #[inline(always)]
     fn in_words(&mut self, words: Words, byte: u8) -> Seen
-        ensures { met self.new result ≡ specs.in_words words byte self.old }
+        ensures { offered self.new result ≡ specs.in_words words byte self.old }
     {
         if self.is_moved(byte) {
             return self.word_moved(words, byte);
@@ -275,7 +275,7 @@ impl Half {
     /// A byte of a line, in no escape.
     #[inline(always)]
     pub(crate) fn in_line(&mut self, byte: u8) -> Seen
-        ensures { met self.new result ≡ specs.in_line byte self.old }
+        ensures { offered self.new result ≡ specs.in_line byte self.old }
     {
         match self.line {
             Line::Start => self.at_start(byte),
@@ -301,7 +301,7 @@ impl Half {
 
     /// A character beyond ASCII in a line, in no escape.
     pub(crate) fn wide_in_line(&mut self, code: u32) -> Seen
-        ensures { met self.new result ≡ specs.wide_in_line code self.old }
+        ensures { offered self.new result ≡ specs.wide_in_line code self.old }
     {
         match self.line {
             Line::Start | Line::Part | Line::Braced | Line::Condition | Line::Fonts => self.shows(

@@ -1,6 +1,6 @@
 //! What the name in an escape stands for: a character, a font, a register, a string, or what a test comes to.
 ghost use Rattle.std.specs.Prelude.{◌≡◌};
-ghost use Rattle.preconv_converter.specs.Half.{met};
+ghost use Rattle.preconv_converter.specs.Half.{offered};
 ghost use Rattle.preconv_converter.specs.Named as specs;
 
 use super::composed::{has_marks, marked_by};
@@ -17,7 +17,7 @@ impl Half {
     /// This character, if there is one. A name that means nothing goes out as it is, but between
     /// delimiters, which the language doesn't have.
     fn character(&mut self, code: Option<u32>) -> Seen
-        ensures { met self.new result ≡ specs.character code self.old }
+        ensures { offered self.new result ≡ specs.character code self.old }
     {
         match code {
             Some(code) => {
@@ -32,7 +32,7 @@ impl Half {
 
     /// This character, if there is one, with a stroke through it.
     fn struck(&mut self, code: Option<u32>) -> Seen
-        ensures { met self.new result ≡ specs.struck code self.old }
+        ensures { offered self.new result ≡ specs.struck code self.old }
     {
         match code {
             Some(code) => {
@@ -45,7 +45,7 @@ impl Half {
 
     /// The letter of a name, if it is one, with its marks.
     fn marked(&mut self, letter: Option<u32>) -> Seen
-        ensures { met self.new result ≡ specs.marked letter self.old }
+        ensures { offered self.new result ≡ specs.marked letter self.old }
     {
         let Some(letter) = letter else {
             return self.character(None);
@@ -59,7 +59,7 @@ impl Half {
 
     /// A character that the language has: it goes out as it was kept, or as a byte.
     fn native(&mut self, code: Option<u32>) -> Seen
-        ensures { met self.new result ≡ specs.native code self.old }
+        ensures { offered self.new result ≡ specs.native code self.old }
     {
         let Some(code) = code else {
             return self.ended_kept();
@@ -71,7 +71,7 @@ impl Half {
 
     /// A character by its name.
     fn glyph(&mut self) -> Seen
-        ensures { met self.new result ≡ specs.glyph self.old }
+        ensures { offered self.new result ≡ specs.glyph self.old }
     {
         let name = self.spelled;
         if is_native(name.as_bytes()) && !self.escape.is_delimited() {
@@ -100,7 +100,7 @@ impl Half {
 
     /// A sign that `.tr` made a quote, if it is one.
     fn quoted(&mut self, quote: Option<Name>) -> Seen
-        ensures { met self.new result ≡ specs.quoted quote self.old }
+        ensures { offered self.new result ≡ specs.quoted quote self.old }
     {
         match quote {
             Some(quote) => {
@@ -113,7 +113,7 @@ impl Half {
 
     /// The character of a name as it is, maybe with marks or a stroke through it.
     fn sign(&mut self) -> Seen
-        ensures { met self.new result ≡ specs.sign self.old }
+        ensures { offered self.new result ≡ specs.sign self.old }
     {
         let name = self.spelled;
         let code = glyph_code(name.as_bytes());
@@ -128,7 +128,7 @@ impl Half {
 
     /// A character by its number.
     fn numbered(&mut self) -> Seen
-        ensures { met self.new result ≡ specs.numbered self.old }
+        ensures { offered self.new result ≡ specs.numbered self.old }
     {
         let name = self.spelled;
         self.character(code_of(name.as_bytes()))
@@ -136,7 +136,7 @@ impl Half {
 
     /// A string. Those of man(7) that are a character go out as its byte.
     fn string(&mut self, code: Option<u32>) -> Seen
-        ensures { met self.new result ≡ specs.string code self.old }
+        ensures { offered self.new result ≡ specs.string code self.old }
     {
         match code {
             Some(code) => self.kept_or(code),
@@ -146,7 +146,7 @@ impl Half {
 
     /// What a test comes to.
     fn tested(&mut self, holds: bool) -> Seen
-        ensures { met self.new result ≡ specs.tested holds self.old }
+        ensures { offered self.new result ≡ specs.tested holds self.old }
     {
         self.places(Mark::Other);
         self.ended(Said::Byte(if holds { b'1' } else { b'0' }))
@@ -154,7 +154,7 @@ impl Half {
 
     /// How far to the left a line begins, if that is a number of cells.
     fn hang(&mut self) -> Seen
-        ensures { met self.new result ≡ specs.hang self.old }
+        ensures { offered self.new result ≡ specs.hang self.old }
     {
         let number = self.spelled;
         if !is_hang(number.as_bytes()) {
@@ -168,7 +168,7 @@ impl Half {
 
     /// The name of an escape has ended.
     pub(crate) fn named(&mut self, kind: Kind) -> Seen
-        ensures { met self.new result ≡ specs.named kind self.old }
+        ensures { offered self.new result ≡ specs.named kind self.old }
     {
         let name = self.spelled;
         match kind {

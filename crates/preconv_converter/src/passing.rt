@@ -27,7 +27,7 @@ impl Reader {
     #[inline(always)]
     fn passes(&mut self, byte: u8) -> bool
         requires { self.old.pending ≡ Nothing }
-        ensures taken { result ≡ true → specs.read byte self.old ≡ specs.told self.new (byte ∷ []) 1 }
+        ensures taken { result ≡ true → specs.read byte self.old ≡ specs.emitted self.new (byte ∷ []) 1 }
         ensures left { result ≡ false → self.new ≡ self.old }
         ensures pending { self.new.pending ≡ Nothing }
     {
@@ -175,10 +175,10 @@ impl Reader {
         0
     }
 
-    /// Takes the first byte of a word, if it goes out as it is. It is met three times.
+    /// Takes the first byte of a word, if it goes out as it is. It is offered three times.
     #[inline(always)]
     pub(crate) fn pass_word(&mut self, byte: u8) -> bool
-        ensures taken { result ≡ true → specs.read byte self.old ≡ specs.told self.new (byte ∷ []) 3 }
+        ensures taken { result ≡ true → specs.read byte self.old ≡ specs.emitted self.new (byte ∷ []) 3 }
         ensures left { result ≡ false → self.new ≡ self.old }
     {
         if !self.is_between() {
@@ -193,14 +193,14 @@ impl Reader {
         }
     }
 
-    /// Takes a dot, a name and the blank or newline after it, where all go out as they are. The last is met twice. Tells
+    /// Takes a dot, a name and the blank or newline after it, where all go out as they are. The last is offered twice. Tells
     /// their number.
     #[inline(always)]
     pub(crate) fn pass_control(&mut self, bytes: &[u8]) -> usize
         ensures within { result ≤ length bytes.now }
         ensures none { result ≡ 0 → self.new ≡ self.old }
         ensures taken { 0 < result → specs.fed self.old (take result bytes.now)
-            ≡ specs.told self.new (take result bytes.now) (result + 1) }
+            ≡ specs.emitted self.new (take result bytes.now) (result + 1) }
     {
         if !self.is_between() {
             return 0;
@@ -219,13 +219,13 @@ impl Reader {
         len + 2
     }
 
-    /// Takes `.\"`, with which a comment begins, at the beginning of a line. The backslash is met twice.
+    /// Takes `.\"`, with which a comment begins, at the beginning of a line. The backslash is offered twice.
     #[inline(always)]
     pub(crate) fn pass_comment(&mut self, bytes: &[u8]) -> bool
         ensures within { result ≡ true → 3 ≤ length bytes.now }
         ensures left { result ≡ false → self.new ≡ self.old }
         ensures taken { result ≡ true → specs.fed self.old (take 3 bytes.now)
-            ≡ specs.told self.new (take 3 bytes.now) 4 }
+            ≡ specs.emitted self.new (take 3 bytes.now) 4 }
     {
         if !self.is_between() {
             return false;
@@ -245,7 +245,7 @@ impl Reader {
         ensures within { 0 < result → result + 1 ≤ length bytes.now }
         ensures none { result ≡ 0 → self.new ≡ self.old }
         ensures named { 0 < result → specs.fed self.old (take (result + 1) bytes.now)
-            ≡ specs.told self.new dot (result + 1) }
+            ≡ specs.emitted self.new dot (result + 1) }
     {
         if !matches!(self.pending, Pending::Nothing) {
             return 0;

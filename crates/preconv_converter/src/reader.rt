@@ -44,7 +44,7 @@ pub(crate) struct Taken {
 /// How many bytes go out for one that comes, at most, and how many are taken at once.
 pub(crate) const MOST: usize = 1536;
 
-/// How often a character is met at most.
+/// How often a character is offered at most.
 const MEETINGS: u8 = 6;
 
 /// Whether a byte begins a character of several bytes.
@@ -117,7 +117,7 @@ impl Reader {
         }
     }
 
-    /// A character comes, and is met so many times at most. Tells how many steps that took.
+    /// A character comes, and is offered so many times at most. Tells how many steps that took.
     fn hear_in(&mut self, coming: Coming, most: u8, out: &mut SliceVec<'_, u8>) -> u64
         requires { length out.old.items + 64 * most ≤ out.old.capacity }
         ensures reader { self.new ≡ (specs.heard_in most coming self.old).reader }
@@ -130,7 +130,7 @@ impl Reader {
         if most == 0 {
             return 0;
         }
-        let seen = self.half.meet(coming);
+        let seen = self.half.offer(coming);
         say(seen.said, self.table, out);
         if seen.takes {
             return 1;
@@ -389,7 +389,7 @@ impl Reader {
 
     /// Takes those of these bytes that come first: a run, the beginning of a control line, or what `take_first` takes. Tells
     /// how many, and in how many steps.
-    fn take_front(&mut self, bytes: &[u8], out: &mut SliceVec<'_, u8>) -> Taken
+    fn take_prefix(&mut self, bytes: &[u8], out: &mut SliceVec<'_, u8>) -> Taken
         requires some { 0 < length bytes.now }
         requires few { length bytes.now ≤ 1536 }
         requires room { length out.old.items + 1536 ≤ out.old.capacity }
@@ -437,7 +437,7 @@ impl Reader {
         let mut count = 0;
         let mut steps = 0;
         while count < bytes.len() && out.capacity() - out.len() >= MOST {
-            let more = self.take_front(&bytes[count..], out);
+            let more = self.take_prefix(&bytes[count..], out);
             count += more.count;
             steps += more.steps;
         }

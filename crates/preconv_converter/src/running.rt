@@ -25,17 +25,17 @@ use nr_units::source::Source;
 /// input is too long, it is that of the bytes before, but for a character, an escape or a name that is
 /// half read; at a write fault a prefix of it.
 ///
-/// `steps` is set to the number of steps that this took: in each a character meets what is half read, or a byte
+/// `steps` is set to the number of steps that this took: in each a character is offered to what is half read, or a byte
 /// passes as it is. There are at most six for each byte that came.
 ///
 /// Proved: What goes out of a page is one function of the bytes that came, however they came: `converted`, whose
-/// definition meets each character with what is half read.
+/// definition offers each character to what is half read.
 /// Proved: At a read fault what the bytes before come to is out, but for what is half read; at a write fault a prefix
 /// of what goes out.
 /// Proved: A fault is reported only where a call of the source or the sink failed, and always then; where both
 /// failed, that of the sink.
 /// Proved: Where all is done, at most 1536 bytes went out for each byte that came, and as many more at the end.
-/// Proved: A run reports how many steps it took; in each a character meets what is half read, or a byte passes as it
+/// Proved: A run reports how many steps it took; in each a character is offered to what is half read, or a byte passes as it
 /// is. They are those of the definition, at a write fault with those of the end or without, and at most six for each
 /// byte that came.
 /// Proved: A text in UTF-8 is read as its characters, for every list of characters: each is heard by its code, of one

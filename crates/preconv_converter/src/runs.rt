@@ -176,7 +176,7 @@ impl Half {
 
     /// Takes the dot and this name.
     pub(crate) fn takes_name(&mut self, name: Name)
-        ensures { self.new ≡ specs.behind_name name self.old }
+        ensures { self.new ≡ specs.after_name name self.old }
     {
         self.places(Mark::Stop);
         self.conditional = false;

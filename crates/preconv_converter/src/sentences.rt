@@ -1,7 +1,7 @@
 //! What a text line is but for its bytes that go out as they are: bytes that are dropped or translated, and the end
 //! of a sentence at its newline.
 ghost use Rattle.std.specs.Prelude.{◌≡◌};
-ghost use Rattle.preconv_converter.specs.Half.{met};
+ghost use Rattle.preconv_converter.specs.Half.{offered};
 ghost use Rattle.preconv_converter.specs.Hyphens as specs;
 
 use super::half::{Before, Escape, Half, Line, Mark, Seen};
@@ -20,7 +20,7 @@ impl Half {
 
     /// Such a byte of a text line.
     pub(crate) fn moved(&mut self, byte: u8) -> Seen
-        ensures { met self.new result ≡ specs.moved byte self.old }
+        ensures { offered self.new result ≡ specs.moved byte self.old }
     {
         if byte == b'\r' {
             return Seen::taken(Said::Nothing);
@@ -31,7 +31,7 @@ impl Half {
 
     /// A character goes out as what it looks like, and the line goes on so.
     pub(crate) fn shows(&mut self, code: u32, line: Line) -> Seen
-        ensures { met self.new result ≡ specs.showing code line self.old }
+        ensures { offered self.new result ≡ specs.showing code line self.old }
     {
         let said = self.line.character(code);
         self.places(wide_mark(code));
@@ -50,7 +50,7 @@ impl Half {
 
     /// The newline after it waits.
     pub(crate) fn holds_newline(&mut self) -> Seen
-        ensures { met self.new result ≡ specs.newline_held self.old }
+        ensures { offered self.new result ≡ specs.newline_held self.old }
     {
         self.goes_by(b'\n');
         self.line = Line::Start;
@@ -61,7 +61,7 @@ impl Half {
 
     /// The first byte of the line after it. A blank or an empty line breaks, and else what comes stands two blanks apart.
     pub(crate) fn after_sentence(&mut self, byte: u8) -> Seen
-        ensures { met self.new result ≡ specs.after_sentence byte self.old }
+        ensures { offered self.new result ≡ specs.after_sentence byte self.old }
     {
         let said = match byte {
             b' ' | b'\n' => Name::of(b"\n"),

@@ -1,6 +1,6 @@
 //! Escapes whose text is dropped.
 ghost use Rattle.std.specs.Prelude.{◌≡◌};
-ghost use Rattle.preconv_converter.specs.Half.{met};
+ghost use Rattle.preconv_converter.specs.Half.{offered};
 ghost use Rattle.preconv_converter.specs.Skipping as specs;
 
 use super::half::{Escape, Half, Seen};
@@ -10,7 +10,7 @@ use nr_units::Name;
 impl Half {
     /// An escape that is dropped with a text begins.
     pub(crate) fn skip(&mut self) -> Seen
-        ensures { met self.new result ≡ specs.skip self.old }
+        ensures { offered self.new result ≡ specs.skip self.old }
     {
         self.kept = Name::new();
         self.escape = Escape::Skip;
@@ -19,7 +19,7 @@ impl Half {
 
     /// The delimiter of a text that is dropped.
     pub(crate) fn skip_from(&mut self, byte: u8) -> Seen
-        ensures { met self.new result ≡ specs.skip_from byte self.old }
+        ensures { offered self.new result ≡ specs.skip_from byte self.old }
     {
         if byte == b'\n' {
             return self.abandoned();
@@ -30,7 +30,7 @@ impl Half {
 
     /// A byte of a text that is dropped.
     pub(crate) fn skipped(&mut self, end: u8, byte: u8) -> Seen
-        ensures { met self.new result ≡ specs.skipped end byte self.old }
+        ensures { offered self.new result ≡ specs.skipped end byte self.old }
     {
         if byte == b'\n' {
             return self.abandoned();
@@ -43,7 +43,7 @@ impl Half {
 
     /// `\?` begins.
     pub(crate) fn embed(&mut self) -> Seen
-        ensures { met self.new result ≡ specs.embed self.old }
+        ensures { offered self.new result ≡ specs.embed self.old }
     {
         self.kept = Name::new();
         self.escape = Escape::Embedded(false);
@@ -52,7 +52,7 @@ impl Half {
 
     /// A byte in `\?..\?`.
     pub(crate) fn embedded(&mut self, backslash: bool, byte: u8) -> Seen
-        ensures { met self.new result ≡ specs.embedded backslash byte self.old }
+        ensures { offered self.new result ≡ specs.embedded backslash byte self.old }
     {
         if byte == b'\n' {
             return self.abandoned();

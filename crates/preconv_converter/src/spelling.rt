@@ -1,6 +1,6 @@
 //! How the name in an escape is spelled.
 ghost use Rattle.std.specs.Prelude.{◌≡◌};
-ghost use Rattle.preconv_converter.specs.Half.{met};
+ghost use Rattle.preconv_converter.specs.Half.{offered};
 ghost use Rattle.preconv_converter.specs.Spelling as specs;
 
 use super::half::{Escape, Half, Kind, Seen};
@@ -18,7 +18,7 @@ fn gives_name(byte: u8) -> bool
 impl Half {
     /// A name of one byte.
     fn named_by(&mut self, kind: Kind, byte: u8) -> Seen
-        ensures { met self.new result ≡ specs.named_by kind byte self.old }
+        ensures { offered self.new result ≡ specs.named_by kind byte self.old }
     {
         self.keep(byte);
         self.spell(byte);
@@ -30,7 +30,7 @@ impl Half {
 
     /// A backslash after the letter of an escape with a name.
     fn escaped(&mut self, kind: Kind) -> Seen
-        ensures { met self.new result ≡ specs.escaped kind self.old }
+        ensures { offered self.new result ≡ specs.escaped kind self.old }
     {
         match kind {
             Kind::Font => {
@@ -43,7 +43,7 @@ impl Half {
 
     /// The backslash after `\f` is the name of no font, and what comes is text.
     pub(crate) fn font_left(&mut self) -> Seen
-        ensures { met self.new result ≡ specs.font_left self.old }
+        ensures { offered self.new result ≡ specs.font_left self.old }
     {
         let seen = self.font();
         Seen::left(seen.said)
@@ -51,7 +51,7 @@ impl Half {
 
     /// It begins an escape that gives the name.
     fn font_given(&mut self) -> Seen
-        ensures { met self.new result ≡ specs.font_given self.old }
+        ensures { offered self.new result ≡ specs.font_given self.old }
     {
         let kept = self.kept;
         let bytes = kept.as_bytes();
@@ -65,7 +65,7 @@ impl Half {
 
     /// A byte after `\f` and a backslash.
     pub(crate) fn font_escape(&mut self, byte: u8) -> Seen
-        ensures { met self.new result ≡ specs.font_escape byte self.old }
+        ensures { offered self.new result ≡ specs.font_escape byte self.old }
     {
         if gives_name(byte) {
             return self.font_given();
@@ -76,7 +76,7 @@ impl Half {
     /// A byte after the letter of an escape with a name. One that another escape gives, as `\f\*B`, is left to
     /// the formatter.
     pub(crate) fn target(&mut self, kind: Kind, byte: u8) -> Seen
-        ensures { met self.new result ≡ specs.target kind byte self.old }
+        ensures { offered self.new result ≡ specs.target kind byte self.old }
     {
         match (byte, kind) {
             (b'\n', _) => self.abandoned(),
@@ -91,7 +91,7 @@ impl Half {
 
     /// A byte of a name of two bytes.
     pub(crate) fn pair(&mut self, kind: Kind, byte: u8) -> Seen
-        ensures { met self.new result ≡ specs.pair kind byte self.old }
+        ensures { offered self.new result ≡ specs.pair kind byte self.old }
     {
         if byte == b'\n' {
             return self.abandoned();
@@ -106,7 +106,7 @@ impl Half {
 
     /// A byte of a name that `end` ends.
     pub(crate) fn spelled_up_to(&mut self, end: u8, kind: Kind, byte: u8) -> Seen
-        ensures { met self.new result ≡ specs.spelled_up_to end kind byte self.old }
+        ensures { offered self.new result ≡ specs.spelled_up_to end kind byte self.old }
     {
         if byte == b'\n' {
             return self.abandoned();
@@ -124,7 +124,7 @@ impl Half {
 
     /// A byte of a name between brackets.
     pub(crate) fn bracketed(&mut self, kind: Kind, byte: u8) -> Seen
-        ensures { met self.new result ≡ specs.bracketed kind byte self.old }
+        ensures { offered self.new result ≡ specs.bracketed kind byte self.old }
     {
         if byte == b'[' {
             return self.goes_on(byte, Escape::Nested(kind));
@@ -134,7 +134,7 @@ impl Half {
 
     /// A byte of one in it.
     pub(crate) fn nested(&mut self, kind: Kind, byte: u8) -> Seen
-        ensures { met self.new result ≡ specs.nested kind byte self.old }
+        ensures { offered self.new result ≡ specs.nested kind byte self.old }
     {
         if byte == b'\n' {
             return self.abandoned();
@@ -148,7 +148,7 @@ impl Half {
 
     /// The delimiter of a name.
     pub(crate) fn delimiter(&mut self, kind: Kind, byte: u8) -> Seen
-        ensures { met self.new result ≡ specs.delimiter kind byte self.old }
+        ensures { offered self.new result ≡ specs.delimiter kind byte self.old }
     {
         if byte == b'\n' {
             return self.abandoned();

@@ -1,6 +1,6 @@
 //! Translations of bytes to bytes by `.tr`.
 ghost use Rattle.std.specs.Prelude.{◌≡◌};
-ghost use Rattle.preconv_converter.specs.Half.{met};
+ghost use Rattle.preconv_converter.specs.Half.{offered};
 ghost use Rattle.preconv_converter.specs.Translations as specs;
 ghost use Rattle.preconv_converter.specs.Lines.{in_translation, pairing, translation_ended, translation_on};
 
@@ -49,7 +49,7 @@ impl Half {
 
     /// One more byte, but a newline.
     fn translation_on(&mut self, pair: Pair, byte: u8) -> Seen
-        ensures { met self.new result ≡ translation_on pair byte self.old }
+        ensures { offered self.new result ≡ translation_on pair byte self.old }
     {
         match pair {
             Pair::First if byte == b' ' => self.says(byte, Line::Translation(Pair::First)),
@@ -64,7 +64,7 @@ impl Half {
 
     /// A byte of a line of `.tr`: of each two characters the first becomes the second.
     pub(crate) fn in_translation(&mut self, pair: Pair, byte: u8) -> Seen
-        ensures { met self.new result ≡ in_translation pair byte self.old }
+        ensures { offered self.new result ≡ in_translation pair byte self.old }
     {
         match byte {
             b'\r' => Seen::taken(Said::Nothing),

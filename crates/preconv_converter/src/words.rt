@@ -1,7 +1,7 @@
 //! The words of a font macro's line. After the eighth all that follows is one word in quotes, since no
 //! more than nine are taken.
 ghost use Rattle.std.specs.Prelude.{◌≡◌, ◌<◌};
-ghost use Rattle.preconv_converter.specs.Words.{begun, begins_word, after_quote, blank_said, class_of, first_words, font_said, goes_on_with, goes_on_with_space, has_hyphens, inside, is_as_is, is_ninth, met_closing, met_words, quoted_said, taken_as_is, told, word_face, words_at};
+ghost use Rattle.preconv_converter.specs.Words.{begun, begins_word, after_quote, blank_said, class_of, first_words, font_said, goes_on_with, goes_on_with_space, has_hyphens, inside, is_as_is, is_ninth, offered_closing, offered_words, quoted_said, taken_as_is, emitted, word_face, words_at};
 
 use super::said::Said;
 
@@ -61,7 +61,7 @@ pub(crate) struct Words {
 
 /// What a character does among words.
 #[derive(Clone, Copy)]
-pub(crate) struct Told {
+pub(crate) struct Emitted {
     /// The words then.
     pub words: Words,
     /// What goes out.
@@ -134,8 +134,8 @@ impl Words {
         )
     }
 
-    fn told(self, place: Place, said: Said, takes: bool) -> Told
-        ensures { result ≡ told place said takes self }
+    fn emitted(self, place: Place, said: Said, takes: bool) -> Emitted
+        ensures { result ≡ emitted place said takes self }
     {
         let words = Words {
             fonts: self.fonts,
@@ -143,7 +143,7 @@ impl Words {
             second: self.second,
             place,
         };
-        Told { words, said, takes }
+        Emitted { words, said, takes }
     }
 
     /// How the font changes for a word after the ninth.
@@ -157,7 +157,7 @@ impl Words {
     }
 
     /// A word begins with what comes.
-    fn begun(self) -> Told
+    fn begun(self) -> Emitted
         ensures { result ≡ begun self }
     {
         if self.count >= 9 {
@@ -167,7 +167,7 @@ impl Words {
                 second: !self.second,
                 place: Place::Begun,
             };
-            return Told {
+            return Emitted {
                 words,
                 said: self.font_said(),
                 takes: false,
@@ -184,7 +184,7 @@ impl Words {
         } else {
             Said::Nothing
         };
-        Told {
+        Emitted {
             words,
             said,
             takes: false,
@@ -220,15 +220,15 @@ impl Words {
     }
 
     /// What a character does right after a quote that may be the last of its word.
-    fn met_closing(self, class: Class, said: Said) -> Told
-        ensures { result ≡ met_closing class said self }
+    fn offered_closing(self, class: Class, said: Said) -> Emitted
+        ensures { result ≡ offered_closing class said self }
     {
         match class {
-            Class::Quote => self.told(Place::Quoted, self.quoted_said(said, Said::Quotes), true),
-            Class::Space => self.told(Place::Between, self.blank_said(said), true),
+            Class::Quote => self.emitted(Place::Quoted, self.quoted_said(said, Said::Quotes), true),
+            Class::Space => self.emitted(Place::Between, self.blank_said(said), true),
             Class::Other => {
                 let blank = self.blank_said(Said::Byte(b' '));
-                self.told(Place::Between, blank, false)
+                self.emitted(Place::Between, blank, false)
             }
         }
     }
@@ -297,38 +297,42 @@ impl Words {
     }
 
     /// What a character does that goes out as `said` elsewhere.
-    pub(crate) fn met(self, class: Class, said: Said) -> Told
-        ensures { result ≡ met_words class said self }
+    pub(crate) fn offered(self, class: Class, said: Said) -> Emitted
+        ensures { result ≡ offered_words class said self }
     {
         match (self.place, class) {
-            (Place::Between, Class::Space) => self.told(
+            (Place::Between, Class::Space) => self.emitted(
                 Place::Between,
                 self.blank_said(said),
                 true,
             ),
             (Place::Between, _) => self.begun(),
-            (Place::Begun, Class::Quote) => self.told(
+            (Place::Begun, Class::Quote) => self.emitted(
                 self.after_quote(),
                 self.quoted_said(said, Said::Nothing),
                 true,
             ),
-            (Place::Begun, _) => self.told(Place::Inside, Said::Nothing, false),
-            (Place::Inside, Class::Space) => self.told(Place::Between, self.blank_said(said), true),
-            (Place::Inside, Class::Quote) => self.told(
+            (Place::Begun, _) => self.emitted(Place::Inside, Said::Nothing, false),
+            (Place::Inside, Class::Space) => self.emitted(
+                Place::Between,
+                self.blank_said(said),
+                true,
+            ),
+            (Place::Inside, Class::Quote) => self.emitted(
                 Place::Inside,
                 self.quoted_said(said, Said::Quotes),
                 true,
             ),
-            (Place::Inside, Class::Other) => self.told(Place::Inside, said, true),
-            (Place::Opened, Class::Space) => self.told(Place::Quoted, Said::Escape(b'&'), false),
-            (Place::Opened, _) => self.told(Place::Quoted, Said::Nothing, false),
-            (Place::Quoted, Class::Quote) => self.told(
+            (Place::Inside, Class::Other) => self.emitted(Place::Inside, said, true),
+            (Place::Opened, Class::Space) => self.emitted(Place::Quoted, Said::Escape(b'&'), false),
+            (Place::Opened, _) => self.emitted(Place::Quoted, Said::Nothing, false),
+            (Place::Quoted, Class::Quote) => self.emitted(
                 Place::Closing,
                 self.quoted_said(said, Said::Nothing),
                 true,
             ),
-            (Place::Quoted, _) => self.told(Place::Quoted, said, true),
-            (Place::Closing, _) => self.met_closing(class, said),
+            (Place::Quoted, _) => self.emitted(Place::Quoted, said, true),
+            (Place::Closing, _) => self.offered_closing(class, said),
         }
     }
 }

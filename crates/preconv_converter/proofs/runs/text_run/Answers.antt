@@ -3,14 +3,14 @@ use Rattle.std.proofs.Common.{◌≡◌, ℕ, ◌+◌, ◌-◌, ◌<◌, List, l
 use Rattle.std.specs.List.{prefix_len}
 use Rattle.std.proofs.lemmas.List.{take_all}
 use Rattle.preconv_converter.specs.Runs.{byte_before, goes_on_text, goes_on_after, run_after}
-use Rattle.preconv_converter.proofs.TextRuns.{run_front, run_on, run_stops}
+use Rattle.preconv_converter.proofs.TextRuns.{run_prefix, run_on, run_stops}
 use Rattle.preconv_converter.proofs.runs.text_run.Goals as goal
 
 pub loop-more-init : goal.loop-more-init
 loop-more-init c =
     let bs = c.args.bytes.now in
     let P : ℕ → Type 0 = λ k. run_after (code ".") bs ≡ k + run_after (byte_before bs k) (drop k bs) in
-    record { within = c.plain_run-run.ensures.within; run = subst P (sym c.plain_run-run.ensures.len) (run_front (code ".") bs) }
+    record { within = c.plain_run-run.ensures.within; run = subst P (sym c.plain_run-run.ensures.len) (run_prefix (code ".") bs) }
 
 pub loop-more-preserved : goal.loop-more-preserved
 loop-more-preserved c =

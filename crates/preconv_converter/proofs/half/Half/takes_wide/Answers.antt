@@ -4,11 +4,11 @@ use Rattle.preconv_converter.specs.declared.half.Mark.{Mark}
 use Rattle.preconv_converter.specs.declared.said.Said.TheVariants.{Character}
 use Rattle.preconv_converter.specs.Half.{taken}
 use Rattle.preconv_converter.specs.Hyphens.{placed}
-use Rattle.preconv_converter.proofs.WideText.{wide_met}
+use Rattle.preconv_converter.proofs.WideText.{wide_offered}
 use Rattle.preconv_converter.proofs.half.Half.takes_wide.Goals as goal
 
 pub returns-in-Text-clause-taken : goal.returns-in-Text-clause-taken
 returns-in-Text-clause-taken c e =
     let h = c.args.self.now in
     ap (λ (k : Half). taken (Character c.args.code) k) (c.places.ensures ∙ ap (λ (m : Mark). placed m h) c.wide_mark.ensures)
-    ∙ wide_met c.args.code h c.in-Plain.is c.in-Text.is
+    ∙ wide_offered c.args.code h c.in-Plain.is c.in-Text.is

@@ -3,7 +3,7 @@ use Rattle.std.proofs.lemmas.List.{take-take}
 use Rattle.preconv_converter.specs.declared.half.Half.{Half}
 use Rattle.preconv_converter.specs.declared.beginnings.Opens.{Opens}
 use Rattle.preconv_converter.specs.Beginnings.{opened, goes_out}
-use Rattle.preconv_converter.specs.Reading.{told, with_half}
+use Rattle.preconv_converter.specs.Reading.{emitted, with_half}
 use Rattle.preconv_converter.specs.Runs.{after_control}
 use Rattle.preconv_converter.proofs.Controls.{control_fed}
 use Rattle.preconv_converter.proofs.reader.Reader.pass_control.Goals as goal
@@ -21,5 +21,5 @@ returns-clause-taken c = λ _.
     ap (λ (o : Opens). goes_out o n) (sym is) ∙ sym c.goes_out.ensures ∙ c.if-not-goes_out.false in
     control_fed n bs r b (c.is_between.ensures.pending c.if-not-is_between.false) (c.is_between.ensures.clear c.if-not-is_between.false) c.name_len-len.ensures.len (omega arith) (omega arith) refl
     (sym c.is_end.ensures ∙ c.if-not-is_end.false) goes
-    ∙ ap (λ (h : Half). told (with_half h r) (take (n + 2) bs) (n + 3)) (ap (λ (o : Opens). after_control o b r.half) (sym is) ∙ sym c.takes_control.ensures)
-    ∙ ap (λ (m : ℕ). told (with_half c.takes_control.new.self r) (take (n + 2) bs) m) (let e : n + 3 ≡ n + 2 + 1 = omega arith in e)
+    ∙ ap (λ (h : Half). emitted (with_half h r) (take (n + 2) bs) (n + 3)) (ap (λ (o : Opens). after_control o b r.half) (sym is) ∙ sym c.takes_control.ensures)
+    ∙ ap (λ (m : ℕ). emitted (with_half c.takes_control.new.self r) (take (n + 2) bs) m) (let e : n + 3 ≡ n + 2 + 1 = omega arith in e)

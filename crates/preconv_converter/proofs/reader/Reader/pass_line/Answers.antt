@@ -9,6 +9,6 @@ returns-clause-plain c =
     let n = c.pass_one-first.result in
     let k = length bs - n in
     let cut = length-take k (drop n bs) in
-    let front = c.pass_text.ensures.within in
-    let within : c.pass_text.result ≤ k = omega (arith, cut, front) in
+    let prefix = c.pass_text.ensures.within in
+    let within : c.pass_text.result ≤ k = omega (arith, cut, prefix) in
     Passes-both n c.pass_text.result k bs c.args.self.now c.pass_one-first.new.self c.pass_text.new.self within c.pass_one-first.ensures.plain c.pass_text.ensures.plain

@@ -9,6 +9,6 @@ returns-clause-plain c =
     let n = c.pass_run-run.result in
     let k = length bs - n in
     let cut = length-take k (drop n bs) in
-    let front = c.pass_stop.ensures.within in
-    let within : c.pass_stop.result ≤ k = omega (arith, cut, front) in
+    let prefix = c.pass_stop.ensures.within in
+    let within : c.pass_stop.result ≤ k = omega (arith, cut, prefix) in
     Passes-both n c.pass_stop.result k bs c.args.self.now c.pass_run-run.new.self c.pass_stop.new.self within c.pass_run-run.ensures.plain c.pass_stop.ensures.plain

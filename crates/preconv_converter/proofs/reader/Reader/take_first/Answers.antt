@@ -1,7 +1,7 @@
 use Rattle.std.proofs.lemmas.Grind.{common_steps}
 use Rattle.std.proofs.Common.{◌≡◌, ◌+◌, ◌++◌, ◌∙◌, sym, ap, subst, arith}
 use Rattle.preconv_converter.specs.declared.reader.Reader.{Reader}
-use Rattle.preconv_converter.specs.Reading.{Told, Takes}
+use Rattle.preconv_converter.specs.Reading.{Emitted, Takes}
 use Rattle.preconv_converter.proofs.Taking.{Takes-byte, Takes-fed, Takes-name}
 use Rattle.preconv_converter.proofs.reader.Reader.take_first.Goals as goal
 
@@ -9,8 +9,8 @@ pub returns-then-pass_word-clause-taken : goal.returns-then-pass_word-clause-tak
 returns-then-pass_word-clause-taken c =
     let word = c.pass_word.ensures.taken c.if-pass_word.true in
     Takes-byte c.args.bytes.now c.args.self.now c.pass_word.new.self c.args.out.now.items c.push.new.self.items 3
-    c.requires.some (sym (ap (λ (t : Told). t.reader) word)) (c.push.ensures.items ∙ ap (λ (t : Told). c.args.out.now.items ++ t.bytes) (sym word))
-    (sym (ap (λ (t : Told). t.steps) word))
+    c.requires.some (sym (ap (λ (t : Emitted). t.reader) word)) (c.push.ensures.items ∙ ap (λ (t : Emitted). c.args.out.now.items ++ t.bytes) (sym word))
+    (sym (ap (λ (t : Emitted). t.steps) word))
 
 pub returns-then-pass_comment-clause-taken : goal.returns-then-pass_comment-clause-taken
 returns-then-pass_comment-clause-taken c =

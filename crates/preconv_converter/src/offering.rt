@@ -1,9 +1,9 @@
-//! A character meets what is half read.
+//! A character is offered to what is half read.
 ghost use Rattle.std.specs.Prelude.{◌≡◌, true, false};
 ghost use Rattle.preconv_converter.specs.declared.half.Coming.TheVariants.{Wide};
 ghost use Rattle.preconv_converter.specs.declared.said.Said.TheVariants.{Character};
-ghost use Rattle.preconv_converter.specs.Half.{is_open, met, taken};
-ghost use Rattle.preconv_converter.specs.Meeting as specs;
+ghost use Rattle.preconv_converter.specs.Half.{is_open, offered, taken};
+ghost use Rattle.preconv_converter.specs.Offering as specs;
 
 use super::half::{Coming, Escape, Half, Line, Seen};
 use super::hyphens::wide_mark;
@@ -28,7 +28,7 @@ impl Line {
 impl Half {
     /// An escape begins.
     fn begins(&mut self) -> Seen
-        ensures { met self.new result ≡ specs.beginning self.old }
+        ensures { offered self.new result ≡ specs.beginning self.old }
     {
         self.escape = Escape::Begun;
         self.kept = Name::of(b"\\");
@@ -38,8 +38,8 @@ impl Half {
 
     /// An ASCII character comes.
     #[inline(always)]
-    fn meet_byte(&mut self, byte: u8) -> Seen
-        ensures { met self.new result ≡ specs.meet_byte byte self.old }
+    fn offer_byte(&mut self, byte: u8) -> Seen
+        ensures { offered self.new result ≡ specs.offer_byte byte self.old }
     {
         if !matches!(self.escape, Escape::Plain) {
             return self.in_escape(byte);
@@ -51,8 +51,8 @@ impl Half {
     }
 
     /// Another character comes. It is in the name of no escape.
-    fn meet_wide(&mut self, code: u32) -> Seen
-        ensures { met self.new result ≡ specs.meet_wide code self.old }
+    fn offer_wide(&mut self, code: u32) -> Seen
+        ensures { offered self.new result ≡ specs.offer_wide code self.old }
     {
         match self.escape {
             Escape::Plain => self.wide_in_line(code),
@@ -68,7 +68,7 @@ impl Half {
     /// Takes a character beyond ASCII that only goes on a text line. Tells whether it does.
     #[inline]
     pub(crate) fn takes_wide(&mut self, code: u32) -> bool
-        ensures taken { result ≡ true → taken (Character code) self.new ≡ specs.meet (Wide code) self.old }
+        ensures taken { result ≡ true → taken (Character code) self.new ≡ specs.offer (Wide code) self.old }
         ensures left { result ≡ false → self.new ≡ self.old }
     {
         match self.escape {
@@ -85,12 +85,12 @@ impl Half {
 
     /// What a character does.
     #[inline(always)]
-    pub(crate) fn meet(&mut self, coming: Coming) -> Seen
-        ensures { met self.new result ≡ specs.meet coming self.old }
+    pub(crate) fn offer(&mut self, coming: Coming) -> Seen
+        ensures { offered self.new result ≡ specs.offer coming self.old }
     {
         match coming {
-            Coming::Byte(byte) => self.meet_byte(byte),
-            Coming::Wide(code) => self.meet_wide(code),
+            Coming::Byte(byte) => self.offer_byte(byte),
+            Coming::Wide(code) => self.offer_wide(code),
         }
     }
 

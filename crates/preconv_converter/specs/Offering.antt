@@ -1,4 +1,4 @@
--- A character meets what is half read.
+-- A character is offered to what is half read.
 use Prim.Native.Char.{code}
 use Rattle.std.specs.Prelude.{ℕ, [], ◌∷◌, Bool, true, false, not, ◌==◌, ◌&&◌, ◌||◌, nat_lt, if◌then◌else◌}
 use Rattle.preconv_converter.specs.declared.said.Said.TheVariants.{Nothing}
@@ -9,25 +9,25 @@ use Rattle.preconv_converter.specs.declared.half.Escape.{Escape}
 use Rattle.preconv_converter.specs.declared.half.Escape.TheVariants as escapes
 use Rattle.preconv_converter.specs.declared.half.Line.{Line}
 use Rattle.preconv_converter.specs.declared.half.Line.TheVariants as lines
-use Rattle.preconv_converter.specs.Half.{Met, taken, abandoned, is_plain, is_open}
+use Rattle.preconv_converter.specs.Half.{Offered, taken, abandoned, is_plain, is_open}
 use Rattle.preconv_converter.specs.Hyphens.{gone_by, turns_hyphens, carriage_return, closes, after_sentence}
 use Rattle.preconv_converter.specs.Words.{is_as_is as word_as_is, taken_as_is as word_taken}
 use Rattle.preconv_converter.specs.Spelling.{font_left}
 use Rattle.preconv_converter.specs.Escapes.{in_escape}
 use Rattle.preconv_converter.specs.Lines.{is_control, follows_tag, begins_apart, in_line, wide_in_line, takes_escape}
 
-abbrev pub beginning : Half → Met
+abbrev pub beginning : Half → Offered
 beginning h = taken Nothing (record h { escape = escapes.Begun; kept = code "\\" ∷ []; spelled = [] })
 
 -- an ASCII character: it goes on an escape, begins one, or goes on its line
-abbrev pub plain_byte : ℕ → Half → Met
+abbrev pub plain_byte : ℕ → Half → Offered
 plain_byte b h = if (b == code "\\") && takes_escape h.line then beginning h else in_line b h
 
-abbrev pub meet_byte : ℕ → Half → Met
-meet_byte b h = if is_plain h.escape then plain_byte b h else in_escape b h
+abbrev pub offer_byte : ℕ → Half → Offered
+offer_byte b h = if is_plain h.escape then plain_byte b h else in_escape b h
 
 -- another character is in the name of no escape
-abbrev pub wide_by : Escape → ℕ → Half → Met
+abbrev pub wide_by : Escape → ℕ → Half → Offered
 wide_by escapes.Plain c h = wide_in_line c h
 wide_by escapes.Skip c h = taken Nothing h
 wide_by (escapes.Skipped end) c h = taken Nothing h
@@ -37,12 +37,12 @@ wide_by escapes.FontEscape c h = font_left h
 wide_by escapes.Sentence c h = after_sentence (code "?") h
 wide_by escape c h = abandoned h
 
-abbrev pub meet_wide : ℕ → Half → Met
-meet_wide c h = wide_by h.escape c h
+abbrev pub offer_wide : ℕ → Half → Offered
+offer_wide c h = wide_by h.escape c h
 
-abbrev pub meet : Coming → Half → Met
-meet (Byte b) h = meet_byte b h
-meet (Wide c) h = meet_wide c h
+abbrev pub offer : Coming → Half → Offered
+offer (Byte b) h = offer_byte b h
+offer (Wide c) h = offer_wide c h
 
 -- ---- an ASCII character that goes out as it is and is taken at once
 

@@ -3,7 +3,7 @@ use Rattle.std.proofs.Common.{◌≡◌, ◌+◌, ◌∙◌, subst, arith}
 use Rattle.preconv_converter.specs.declared.reader.Reader.{Reader}
 use Rattle.preconv_converter.specs.Reading.{Takes}
 use Rattle.preconv_converter.proofs.Taking.{Takes-run, Takes-fed, none-passed}
-use Rattle.preconv_converter.proofs.reader.Reader.take_front.Goals as goal
+use Rattle.preconv_converter.proofs.reader.Reader.take_prefix.Goals as goal
 
 pub returns-then-run-gt0-clause-taken : goal.returns-then-run-gt0-clause-taken
 returns-then-run-gt0-clause-taken c =
