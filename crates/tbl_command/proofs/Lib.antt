@@ -1,5 +1,4 @@
 pub mod Answering
-pub mod Bounding
 pub mod Looked
 pub mod Parting
 pub mod Reading

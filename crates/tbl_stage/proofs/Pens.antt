@@ -7,7 +7,7 @@ use Rattle.tbl_drawing.specs.declared.layout.StepKind.TheVariants as steps
 use Rattle.tbl_drawing.specs.declared.pen.Pen.{Pen}
 use Rattle.tbl_drawing.specs.Drawing as drawing
 use Rattle.tbl_drawing.specs.Heights.{all_lines}
-use Rattle.tbl_drawing.specs.Held.{has_begun, lines_of, step, tall}
+use Rattle.tbl_drawing.specs.Held.{has_begun, step}
 use Rattle.tbl_drawing.specs.Lines as lines
 use Rattle.tbl_drawing.specs.Pens.{Stroke, Start, Bytes, Text, after_all, bytes_of, first}
 use Rattle.tbl_drawing.specs.Sequences.{joined}
