@@ -26,7 +26,8 @@ pub enum Kind {
     FormatsLimit,
     /// More bytes of a row than are kept: the rest of the table goes out as plain lines.
     RowLimit,
-    /// The table is surely wider than the line, by its formats or by a row: it is set as wide as it is.
+    /// The table is surely wider than the line, by its formats or by a row; one that is narrowed stays wider, narrowed as far as
+    /// it may be.
     TooWide,
 }
 
