@@ -225,6 +225,8 @@ const char *nulbiko_wrong_name(uint32_t wrong)
                                         "more than 64 columns",
                                         "table formats limit passed",
                                         "table row limit passed",
-                                        "table wider than the line"};
+                                        "table wider than the line",
+                                        "not one character after an option",
+                                        "request not set in a text block"};
     return wrong < sizeof names / sizeof *names ? names[wrong] : "unknown";
 }

@@ -78,7 +78,8 @@ enum nulbiko_wrong {
     NULBIKO_FORMATS_LIMIT = 8,    /* More than 8,192 bytes of options and formats. */
     NULBIKO_ROW_LIMIT = 9,        /* More than 16,384 bytes of a row. */
     NULBIKO_TOO_WIDE = 10,        /* The table is wider than the line. */
-    NULBIKO_BAD_ARGUMENT = 11     /* What follows tab or decimalpoint is not one character. */
+    NULBIKO_BAD_ARGUMENT = 11,    /* What follows tab or decimalpoint is not one character. */
+    NULBIKO_UNSET_REQUEST = 12    /* A request of a text block that is not set there. */
 };
 
 /* Tables of characters: bytes from 128 on stand for characters beyond ASCII from nulbiko_preconv to nulbiko_utf8. */

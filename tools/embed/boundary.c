@@ -219,7 +219,7 @@ static void names(void)
                                      10000 * major + 100 * minor + patch == NULBIKO_VERSION_NUMBER);
     judge("names of outcomes", are_names(nulbiko_outcome_name, NULBIKO_TOO_LONG + 1, "text too long"));
     judge("names of limits", are_names(nulbiko_limit_name, NULBIKO_SET_PAGE + 1, "page with tables"));
-    judge("names of what is wrong", are_names(nulbiko_wrong_name, NULBIKO_TOO_WIDE + 1, "table wider than the line"));
+    judge("names of what is wrong", are_names(nulbiko_wrong_name, NULBIKO_UNSET_REQUEST + 1, "request not set in a text block"));
 }
 
 /* Pages that name their coding: two letters of KOI8-R behind it; one that is no coding before a letter of UTF-8. */

@@ -35,6 +35,7 @@ kind_number kinds.FormatsLimit = 8
 kind_number kinds.RowLimit = 9
 kind_number kinds.TooWide = 10
 kind_number (kinds.BadArgument word) = 11
+kind_number (kinds.UnsetRequest name) = 12
 
 -- what is wrong by the first of these complaints, and 0 where there is none
 abbrev pub first_kind : List Complaint → ℕ

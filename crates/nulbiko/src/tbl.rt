@@ -53,6 +53,7 @@ fn kind_number(kind: Kind) -> u32
         Kind::RowLimit => 9,
         Kind::TooWide => 10,
         Kind::BadArgument(_) => 11,
+        Kind::UnsetRequest(_) => 12,
     }
 }
 

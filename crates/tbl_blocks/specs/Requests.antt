@@ -1,5 +1,5 @@
 -- The requests of a block that are set here (tbl(1), TEXT BLOCKS): by the table `NAMES`.
-use Rattle.std.specs.Prelude.{ℕ, List, [], ◌∷◌, ◌==◌, ◌&&◌, if◌then◌else◌}
+use Rattle.std.specs.Prelude.{ℕ, Bool, true, false, List, [], ◌∷◌, ◌==◌, ◌&&◌, if◌then◌else◌}
 use Rattle.tbl_blocks.specs.declared.requests.Request.{Request}
 use Rattle.tbl_blocks.specs.declared.requests.Request.TheVariants as requests
 use Rattle.tbl_blocks.specs.declared.requests.TheConstants.{NAMES}
@@ -19,3 +19,9 @@ request_of [] = letters_request 0 0
 request_of (a ∷ []) = letters_request a 0
 request_of (a ∷ b ∷ []) = letters_request a b
 request_of (a ∷ b ∷ c ∷ more) = requests.Unknown
+
+-- it is set, or changes nothing here
+abbrev pub is_set : Request → Bool
+is_set requests.Unset = false
+is_set requests.Unknown = false
+is_set request = true

@@ -1,6 +1,6 @@
 -- The words of a block (Lesk, "Tbl", text blocks; CSTR 54 4.1): its lines of text, and those of requests, as parts. Bytes that have no part are blanks,
 -- escapes and requests.
-use Rattle.std.specs.Prelude.{ℕ, zero, suc, ◌+◌, ◌-◌, Bool, true, false, ◌==◌, ◌&&◌, ◌||◌, nat_le, nat_lt, List, [], ◌∷◌, ◌++◌, length, drop, take, slice_index, slice_range, Option, None, Some, if◌then◌else◌}
+use Rattle.std.specs.Prelude.{ℕ, zero, suc, ◌+◌, ◌-◌, Bool, true, false, not, ◌==◌, ◌&&◌, ◌||◌, nat_le, nat_lt, List, [], ◌∷◌, ◌++◌, length, drop, take, slice_index, slice_range, Option, None, Some, if◌then◌else◌}
 use Prim.Native.Char.{code}
 use Rattle.tbl_blocks.specs.declared.arguments.Argument.{Argument}
 use Rattle.tbl_blocks.specs.declared.blocks.Blocks.{Blocks}
@@ -17,7 +17,7 @@ use Rattle.tbl_blocks.specs.Parts.{blanks, sum}
 use Rattle.tbl_blocks.specs.Lists.{added}
 use Rattle.tbl_blocks.specs.Reading.{after_part, breaks, ends_in_space, face_of, faced, indented, line_ends, once_left, once_set, paragraph, part_to, parts_before, skipped, space_part, tagged, taken, unset, waits_for, word_at, word_begun}
 use Rattle.tbl_blocks.specs.Reading.{line_read as line_over, obeyed as reading_obeyed}
-use Rattle.tbl_blocks.specs.Requests.{request_of}
+use Rattle.tbl_blocks.specs.Requests.{is_set, request_of}
 use Rattle.tbl_blocks.specs.Units.{unit_of}
 
 abbrev pub with_reading : Reading → Blocks → Blocks
@@ -115,7 +115,7 @@ face_read text place f s =
     if is_none (argument text) then with_reading (waits_for f s.reading) s
     else faces_read text place (record { first = f; second = f; joined = false }) s
 
--- one that is not known is told, and its words are printed
+-- of one that is not known the words are printed
 abbrev pub unknown_read : List ℕ → ℕ → Blocks → Blocks
 unknown_read text place s =
     let f = s.reading.face.font in
@@ -160,10 +160,12 @@ obeyed requests.Unknown text place s = unknown_read text place s
 obeyed request text place s = with_reading (reading_obeyed request (first_argument text) s.reading) s
 
 -- a name after blanks, and its arguments
+abbrev pub name_in : List ℕ → List ℕ
+name_in text = take (request_len text) text
+
 abbrev pub named_read : List ℕ → ℕ → Blocks → Blocks
 named_read text place s =
-    obeyed (request_of (take (request_len text) text)) (drop (request_len text) text)
-    (place + request_len text) s
+    obeyed (request_of (name_in text)) (drop (request_len text) text) (place + request_len text) s
 
 abbrev pub request_read : List ℕ → ℕ → Blocks → Blocks
 request_read line place s = named_read (drop (blanks_len line) line) (place + blanks_len line) s
@@ -173,6 +175,14 @@ request_read line place s = named_read (drop (blanks_len line) line) (place + bl
 abbrev pub is_request : List ℕ → Bool
 is_request [] = false
 is_request (b ∷ bs) = (b == code ".") || (b == code "'")
+
+-- the name of the request of a line
+abbrev pub request_name : List ℕ → List ℕ
+request_name line = name_in (drop (blanks_len (drop 1 line)) (drop 1 line))
+
+-- A line is that of a request that isn't set here.
+abbrev pub is_unset : List ℕ → Bool
+is_unset line = is_request line && not (is_set (request_of (request_name line)))
 
 abbrev pub line_as : Bool → List ℕ → ℕ → Blocks → Blocks
 line_as request line place s =

@@ -26,3 +26,4 @@ pub use laws::{
     words_are_read,
 };
 pub use parts::{Extent, Font, Join, Known, Line, Part, Seen};
+pub use words::{is_unset, request_name};

@@ -149,3 +149,12 @@ pub(crate) fn request_of(name: &[u8]) -> Request
         Request::Unknown
     }
 }
+
+impl Request {
+    /// Whether it is set, or changes nothing here.
+    pub(crate) fn is_set(self) -> bool
+        ensures { result ≡ specs.is_set self }
+    {
+        !matches!(self, Request::Unset | Request::Unknown)
+    }
+}

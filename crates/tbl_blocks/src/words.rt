@@ -31,6 +31,30 @@ fn is_request(line: &[u8]) -> bool
     }
 }
 
+/// The name that a text begins with.
+fn name_in(text: &[u8]) -> &[u8]
+    ensures { result.now ≡ specs.name_in text.now }
+{
+    &text[..request_len(text)]
+}
+
+/// The name of the request of a line.
+pub fn request_name(line: &[u8]) -> &[u8]
+    ensures { result.now ≡ specs.request_name line.now }
+{
+    match line.split_first() {
+        None => line,
+        Some((_first, rest)) => name_in(&rest[blanks_len(rest)..]),
+    }
+}
+
+/// Whether a line is that of a request that isn't set here.
+pub fn is_unset(line: &[u8]) -> bool
+    ensures { result ≡ specs.is_unset line.now }
+{
+    is_request(line) && !request_of(request_name(line)).is_set()
+}
+
 /// How many cells parts take on one line.
 fn cells_of(parts: &[Part]) -> usize
     ensures { result ≡ specs.cells_of parts.now }

@@ -4,7 +4,7 @@ use Rattle.std.specs.Prelude.{ℕ, List, [], ◌∷◌, ◌++◌, Bool, ◌&&◌
 use Rattle.std.specs.List.{concat, flat_map}
 use Rattle.tbl_reader.specs.declared.complaint.Complaint.{Complaint}
 use Rattle.tbl_reader.specs.declared.complaint.Kind.{Kind}
-use Rattle.tbl_reader.specs.declared.complaint.Kind.TheVariants.{NoFormat, BadFormat, UnknownOption, BadArgument, TooManyFields, OpenBlock, OpenTable, TooManyColumns, FormatsLimit, RowLimit, TooWide}
+use Rattle.tbl_reader.specs.declared.complaint.Kind.TheVariants.{NoFormat, BadFormat, UnknownOption, BadArgument, TooManyFields, OpenBlock, OpenTable, TooManyColumns, FormatsLimit, RowLimit, TooWide, UnsetRequest}
 
 -- ---- what is wrong
 
@@ -21,6 +21,7 @@ words_of TooManyColumns = codes "more than 64 columns"
 words_of FormatsLimit = codes "table formats limit passed"
 words_of RowLimit = codes "table row limit passed"
 words_of TooWide = codes "table wider than the line"
+words_of (UnsetRequest name) = codes "not set in a text block: ."
 
 -- a byte that prints, or else its number
 abbrev pub byte_text : ℕ → List ℕ
@@ -31,6 +32,7 @@ abbrev pub named_by : Kind → List ℕ
 named_by (BadFormat byte) = byte_text byte
 named_by (UnknownOption word) = word
 named_by (BadArgument word) = word
+named_by (UnsetRequest name) = name
 named_by (OpenBlock line) = decimal line
 named_by (OpenTable line) = decimal line
 named_by other = []

@@ -33,6 +33,7 @@ fn words_of(kind: Kind) -> &'static [u8]
         Kind::FormatsLimit => b"table formats limit passed".as_slice(),
         Kind::RowLimit => b"table row limit passed".as_slice(),
         Kind::TooWide => b"table wider than the line".as_slice(),
+        Kind::UnsetRequest(_) => b"not set in a text block: .".as_slice(),
     }
 }
 
@@ -60,7 +61,7 @@ fn named_by(kind: Kind) -> Name
 {
     match kind {
         Kind::BadFormat(byte) => byte_name(byte),
-        Kind::UnknownOption(word) | Kind::BadArgument(word) => word,
+        Kind::UnknownOption(word) | Kind::BadArgument(word) | Kind::UnsetRequest(word) => word,
         Kind::OpenBlock(line) | Kind::OpenTable(line) => digits_of(line),
         _ => Name::new(),
     }

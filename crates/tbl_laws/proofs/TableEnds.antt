@@ -211,6 +211,7 @@ new_judged (Some (kinds.OpenTable line)) p q = new_row p q
 new_judged (Some kinds.FormatsLimit) p q = new_row p q
 new_judged (Some kinds.RowLimit) p q = new_row p q
 new_judged (Some kinds.TooWide) p q = new_row p q
+new_judged (Some (kinds.UnsetRequest name)) p q = new_row p q
 
 new_formats : (p q : Page) → q.state.mode ≡ modes.Head → New p (heads.formats_line q).page
 new_formats p q m =

@@ -2,6 +2,7 @@
 use Rattle.std.proofs.Common.{◌≡◌, ℕ, zero, suc, ◌+◌, ◌-◌, ◌*◌, ◌<◌, ◌≤◌, List, [], ◌∷◌, ◌++◌, length, take, drop, Bool, true, false, not, ◌==◌, if◌then◌else◌, nat_le, nat_lt, Option, None, Some, refl, ◌∙◌, ap, length-append, arith}
 use Rattle.std.proofs.lemmas.List.{length-take, length-drop}
 use Prim.Native.Char.{code}
+use Rattle.tbl_blocks.specs.Words.{is_unset}
 use Rattle.tbl_reader.specs.declared.command.Start.{Start}
 use Rattle.tbl_reader.specs.declared.complaint.Kind.{Kind}
 use Rattle.tbl_reader.specs.declared.complaint.Kind.TheVariants as kinds
@@ -16,7 +17,7 @@ use Rattle.tbl_reader.specs.declared.state.Mode.TheVariants as modes
 use Rattle.tbl_reader.specs.declared.state.State.{State}
 use Rattle.tbl_reader.specs.declared.telling.Tell.{Tell}
 use Rattle.tbl_reader.specs.declared.telling.Tell.TheVariants as tells
-use Rattle.tbl_reader.specs.BlockLines.{ends_block, goes_on, field_at, block_left, block_ended, block_line, block_overflown}
+use Rattle.tbl_reader.specs.BlockLines.{ends_block, goes_on, field_at, block_left, block_ended, block_line, block_line_begun, block_overflown, block_said, unset_reported}
 use Rattle.tbl_reader.specs.Commands.{begins_command, is_command}
 use Rattle.tbl_reader.specs.Ending.{is_begin, is_open_in, closed_in, closed, line_closed, finished, first_page, page_said}
 use Rattle.tbl_reader.specs.Fields.{shape_of, is_request, place_of, cleaned, continues, behind}
@@ -204,15 +205,33 @@ left_light : (goes : Bool) (p : Page) → goes_on p ≡ goes → Light (4 * leng
 left_light true p e = rw e (record { few = (let x = (row_light (record p { state = record (states.field_counted p.state) { mode = modes.Row }; from = field_at p; start = field_at p })).few in omega (arith, x)) })
 left_light false p e = rw e (record { few = omega arith })
 
+unset_few : (p : Page) → length (unset_reported p) ≤ 1
+unset_few p = choose (λ (ps : List Piece). length ps ≤ 1) (is_unset p.kept) _ _ (omega arith) (omega arith)
+
+said_light : (p : Page) → Light (4 * length p.kept + 5) (block_said p)
+said_light p =
+    let text = each tells.BlockText p.kept in
+    let line = text ++ each tells.BlockText (code "\n" ∷ []) in
+    let x = each_length tells.BlockText p.kept in
+    let y = length-append text (each tells.BlockText (code "\n" ∷ [])) in
+    let z = length-append (unset_reported p) line in
+    let few = unset_few p in
+    let none = nothing_left p in
+    record { few = omega (arith, x, y, z, few, none) }
+
+begun_light : (p : Page) → Light (length p.kept + 6) (block_line_begun p)
+begun_light p =
+    let x = each_length tells.BlockText p.kept in
+    let y = length-append (unset_reported p) (each tells.BlockText p.kept) in
+    let few = unset_few p in
+    record { few = omega (arith, x, y, few) }
+
 block_light : (p : Page) → Light (4 * length p.kept + 5) (block_line p)
 block_light p =
     choose (Light (4 * length p.kept + 5)) (ends_block p.kept) _ _ (left_light (goes_on p) p refl)
     (choose (Light (4 * length p.kept + 5)) (is_command (code "E") p.kept) _ _
     (record { few = (let x = each_length tells.Pass p.kept in let y = length-append (each tells.Pass p.kept) (piece tells.Pass (code "\n" ∷ []) ∷ []) in omega (arith, x, y)) })
-    (record {
-      few = (let x = each_length tells.BlockText p.kept in let y = length-append (each tells.BlockText p.kept) (each tells.BlockText (code "\n" ∷ [])) in
-          let z = nothing_left p in omega (arith, x, y, z));
-    }))
+    (said_light p))
 
 over_left_light : (goes : Bool) (p : Page) → goes_on p ≡ goes → Light (length p.kept + 6) (and_then (block_left p) row_overflown)
 over_left_light true p e = rw e (record { few = (let x = (over_row_light (record p { state = record (states.field_counted p.state) { mode = modes.Row }; from = field_at p; start = field_at p })).few in omega (arith, x)) })
@@ -223,7 +242,7 @@ over_block_light p =
     choose (Light (length p.kept + 6)) (ends_block p.kept) _ _ (over_left_light (goes_on p) p refl)
     (choose (Light (length p.kept + 6)) (is_command (code "E") p.kept) _ _
     (record { few = (let x = each_length tells.Pass p.kept in omega (arith, x)) })
-    (record { few = (let x = each_length tells.BlockText p.kept in omega (arith, x)) }))
+    (begun_light p))
 
 -- ---- options and formats
 
@@ -249,6 +268,7 @@ judged_light (Some (kinds.OpenTable line)) p = record { few = omega arith }
 judged_light (Some kinds.FormatsLimit) p = record { few = omega arith }
 judged_light (Some kinds.RowLimit) p = record { few = omega arith }
 judged_light (Some kinds.TooWide) p = record { few = omega arith }
+judged_light (Some (kinds.UnsetRequest name)) p = record { few = omega arith }
 
 formats_length : (text : List ℕ) (f : Formats) → length (heads.formats_said f text) ≡ length text
 formats_length [] f = refl

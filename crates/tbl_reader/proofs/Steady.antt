@@ -216,6 +216,7 @@ fitting_judged (Some (kinds.OpenTable line)) p = forgets p (with_state (states.r
 fitting_judged (Some kinds.FormatsLimit) p = forgets p (with_state (states.row_begun p.state) p) refl (record { line = refl; cells = refl })
 fitting_judged (Some kinds.RowLimit) p = forgets p (with_state (states.row_begun p.state) p) refl (record { line = refl; cells = refl })
 fitting_judged (Some kinds.TooWide) p = forgets p (with_state (states.row_begun p.state) p) refl (record { line = refl; cells = refl })
+fitting_judged (Some (kinds.UnsetRequest name)) p = forgets p (with_state (states.row_begun p.state) p) refl (record { line = refl; cells = refl })
 
 fitting_formats : (p : Page) → Fitting p (heads.formats_ended p).page
 fitting_formats p =

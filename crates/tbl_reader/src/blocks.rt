@@ -9,6 +9,11 @@ use super::field::without_blanks_before;
 use super::reader::{Reader, behind};
 use super::state::Mode;
 use super::telling::{Setter, Tell};
+use nr_units::Name;
+use tbl_blocks::{is_unset, request_name};
+
+/// The most bytes of a name that are reported.
+const REPORTED: usize = 32;
 
 /// Whether a line ends a text block.
 fn ends_block(line: &[u8]) -> bool
@@ -23,6 +28,29 @@ fn rest_at(line: &[u8]) -> usize
     ensures within { result ≤ length line.now }
 {
     line.len() - without_blanks_before(behind(line, 2)).len()
+}
+
+/// Whether a byte prints in ASCII, and is no blank.
+fn prints(byte: u8) -> bool
+    ensures { result ≡ specs.prints byte }
+{
+    matches!(byte, b'!'..=b'~')
+}
+
+/// How many bytes stand before the first that doesn't print.
+fn printed_len(name: &[u8]) -> usize
+    ensures value { result ≡ specs.printed_len name.now }
+    ensures within { result ≤ length name.now }
+{
+    name.iter().take_while(|byte| prints(**byte)).count()
+}
+
+/// What is reported of a request's name.
+fn reported_name(name: &[u8]) -> Name
+    ensures { result ≡ specs.reported_name name.now }
+{
+    let len = printed_len(name);
+    Name::of(&name[..len.min(REPORTED)])
 }
 
 impl Reader {
@@ -41,13 +69,36 @@ impl Reader {
         }
     }
 
+    /// A request of a text block that isn't set is reported.
+    fn reports_unset<S: Setter>(&self, setter: &mut S)
+        ensures { Tells S.shows S.hears (specs.unset_reported self.now) setter.old setter.new }
+    {
+        let line = self.kept.as_slice();
+        if is_unset(line) {
+            let name = reported_name(request_name(line));
+            self.state.complains(Kind::UnsetRequest(name), setter);
+        }
+    }
+
     /// A line of a text block is told.
     fn tells_block_line<S: Setter>(&mut self, setter: &mut S)
         ensures page { self.new ≡ (specs.block_said self.old).page }
         ensures told { Tells S.shows S.hears (specs.block_said self.old).pieces setter.old setter.new }
     {
+        self.reports_unset(setter);
         setter.tell(Tell::BlockText, self.kept.as_slice());
         setter.tell(Tell::BlockText, b"\n");
+        self.forgets();
+    }
+
+    /// The beginning of such a line is told, the rest of which is not kept.
+    fn tells_line_begun<S: Setter>(&mut self, setter: &mut S)
+        ensures page { self.new ≡ (specs.block_line_begun self.old).page }
+        ensures told { Tells S.shows S.hears (specs.block_line_begun self.old).pieces setter.old setter.new }
+    {
+        self.reports_unset(setter);
+        setter.tell(Tell::BlockText, self.kept.as_slice());
+        self.state.mode = Mode::BlockLine;
         self.forgets();
     }
 
@@ -105,9 +156,7 @@ impl Reader {
             self.closes_block(setter);
             self.long_end(setter);
         } else {
-            setter.tell(Tell::BlockText, self.kept.as_slice());
-            self.state.mode = Mode::BlockLine;
-            self.forgets();
+            self.tells_line_begun(setter);
         }
     }
 }

@@ -29,6 +29,9 @@ pub enum Kind {
     /// The table is surely wider than the line, by its formats or by a row; one that is narrowed stays wider, narrowed as far as
     /// it may be.
     TooWide,
+    /// This request of a text block, of whose name so much is reported, isn't set: it does nothing there, and the words of a
+    /// macro are text.
+    UnsetRequest(Name),
 }
 
 /// What is wrong, and where.

@@ -211,6 +211,7 @@ fn kind_told(alloc: Global, kind: Kind) -> anyhow::Result<String> {
         Kind::FormatsLimit => format!(in alloc; "FormatsLimit")?,
         Kind::RowLimit => format!(in alloc; "RowLimit")?,
         Kind::TooWide => format!(in alloc; "TooWide")?,
+        Kind::UnsetRequest(word) => format!(in alloc; "UnsetRequest {}", text_of(&word))?,
     })
 }
 

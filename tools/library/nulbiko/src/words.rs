@@ -201,6 +201,10 @@ pub enum Wrong {
     RowLimit,
     /// The table is wider than the line.
     TooWide,
+    /// What follows an option is not one character.
+    BadArgument,
+    /// A request of a text block that is not set there.
+    UnsetRequest,
 }
 
 impl Wrong {
@@ -217,6 +221,8 @@ impl Wrong {
             8 => Wrong::FormatsLimit,
             9 => Wrong::RowLimit,
             10 => Wrong::TooWide,
+            11 => Wrong::BadArgument,
+            12 => Wrong::UnsetRequest,
             _ => return None,
         })
     }

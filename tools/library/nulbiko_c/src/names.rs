@@ -21,7 +21,7 @@ const LIMITS: [&CStr; 8] = [
     c"moves",
     c"page with tables",
 ];
-const WRONGS: [&CStr; 11] = [
+const WRONGS: [&CStr; 13] = [
     c"none",
     c"table without a format",
     c"bad format",
@@ -33,6 +33,8 @@ const WRONGS: [&CStr; 11] = [
     c"table formats limit passed",
     c"table row limit passed",
     c"table wider than the line",
+    c"not one character after an option",
+    c"request not set in a text block",
 ];
 
 /// The name at a place.

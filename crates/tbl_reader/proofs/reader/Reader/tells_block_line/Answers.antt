@@ -1,6 +1,7 @@
-use Rattle.std.proofs.Common.{[], ◌∷◌, ◌∙◌, ap}
+use Rattle.std.proofs.Common.{[], ◌∷◌, ◌++◌, ◌∙◌, ap}
 use Prim.Native.Char.{code}
 use Rattle.tbl_reader.specs.declared.telling.Tell.TheVariants as tells
+use Rattle.tbl_reader.specs.BlockLines.{unset_reported}
 use Rattle.tbl_reader.specs.Pages.{Page}
 use Rattle.tbl_reader.specs.Telling.{each}
 use Rattle.tbl_reader.proofs.Hearing.{tells_append, each_same}
@@ -8,6 +9,9 @@ use Rattle.tbl_reader.proofs.reader.Reader.tells_block_line.Goals as goal
 
 pub returns-clause-told : goal.returns-clause-told
 returns-clause-told g c =
-    let kept = c.args.self.now.kept in
-    let all = each_same g.S.Setter.shows g.S.Setter.hears tells.BlockText c.as_slice.result.now kept c.args.setter.now c.tell.new.self (c.as_slice.ensures.value ∙ ap (λ (p : Page). p.kept) c.self.view_is) c.tell.ensures in
-    tells_append g.S.Setter.shows g.S.Setter.hears (each tells.BlockText kept) (each tells.BlockText (code "\n" ∷ [])) c.args.setter.now c.tell.new.self c.tell-2.new.self all c.tell-2.ensures
+    let p = c.args.self.now in
+    let kept = p.kept in
+    let all = each_same g.S.Setter.shows g.S.Setter.hears tells.BlockText c.as_slice.result.now kept c.reports_unset.new.setter c.tell.new.self (c.as_slice.ensures.value ∙ ap (λ (p : Page). p.kept) c.self.view_is) c.tell.ensures in
+    tells_append g.S.Setter.shows g.S.Setter.hears (unset_reported p) (each tells.BlockText kept ++ each tells.BlockText (code "\n" ∷ []))
+    c.args.setter.now c.reports_unset.new.setter c.tell-2.new.self c.reports_unset.ensures
+    (tells_append g.S.Setter.shows g.S.Setter.hears (each tells.BlockText kept) (each tells.BlockText (code "\n" ∷ [])) c.reports_unset.new.setter c.tell.new.self c.tell-2.new.self all c.tell-2.ensures)
