@@ -85,7 +85,7 @@ table_set ends s = with_layout (tables.table_after ends s.layout) s
 abbrev pub table_strokes : Bool → Setting → List Stroke
 table_strokes ends s = tables.table_strokes ends s.layout
 
--- ---- a table that was read as wider than the line: where it is narrowed that waits until it went out, and is told if it is wider then
+-- ---- a table that was read as wider than the line: where it is narrowed that waits until it went out, and is reported if it is wider then
 
 abbrev pub narrows : Setting → Bool
 narrows s = s.layout.grid.room.fits && not s.layout.grid.table.looks.nofit
@@ -103,6 +103,6 @@ is_wide s = nat_lt (line_room s.layout.grid) (table_end s.layout.grid)
 abbrev pub still_wide : Setting → Option Complaint
 still_wide s = if is_wide s then s.wide else None
 
-abbrev pub told : Option Complaint → List Complaint
-told None = []
-told (Some complaint) = complaint ∷ []
+abbrev pub reported : Option Complaint → List Complaint
+reported None = []
+reported (Some complaint) = complaint ∷ []

@@ -16,7 +16,7 @@ use Rattle.tbl_drawing.specs.Tapes.{Tape, Draws}
 use Rattle.tbl_setting.specs.declared.setting.Setting.{Setting}
 use Rattle.tbl_setting.specs.Bounds.{Bounds, page_setting}
 use Rattle.tbl_setting.specs.Hearing.{called_heard, empty_added, form_of, line_heard, looks_of}
-use Rattle.tbl_setting.specs.Held.{emptied, page_heard, still_wide, table, table_begun, table_set, table_strokes, told, waits, with_table, with_wide}
+use Rattle.tbl_setting.specs.Held.{emptied, page_heard, reported, still_wide, table, table_begun, table_set, table_strokes, waits, with_table, with_wide}
 use Rattle.tbl_table.specs.Formats.{formats_begun, formats_ended, text_added}
 use Rattle.tbl_table.specs.Rows.{block_ended, field_added, is_full, is_tight, mark_added, row_ended, row_len, text_begun}
 use Rattle.tbl_table.specs.Table.{looking}
@@ -138,19 +138,19 @@ set_bytes b said = bytes_of (strokes said (page_setting b)) first
 
 -- ---- what is wrong
 
-abbrev pub wide_told : Setting → List Complaint
-wide_told s = told (still_wide (table_set true s))
+abbrev pub wide_reported : Setting → List Complaint
+wide_reported s = reported (still_wide (table_set true s))
 
-abbrev pub begun_told : Setting → List Complaint
-begun_told s = if has_begun s.layout then wide_told s else []
+abbrev pub begun_reported : Setting → List Complaint
+begun_reported s = if has_begun s.layout then wide_reported s else []
 
-abbrev pub wrong_told : Complaint → Setting → List Complaint
-wrong_told complaint s = if waits complaint.kind s then [] else complaint ∷ []
+abbrev pub wrong_reported : Complaint → Setting → List Complaint
+wrong_reported complaint s = if waits complaint.kind s then [] else complaint ∷ []
 
 abbrev pub wrong_in : Tell → Setting → List Complaint
-wrong_in tells.TableEnd s = wide_told s
-wrong_in tells.Plain s = begun_told s
-wrong_in (tells.Wrong complaint) s = wrong_told complaint s
+wrong_in tells.TableEnd s = wide_reported s
+wrong_in tells.Plain s = begun_reported s
+wrong_in (tells.Wrong complaint) s = wrong_reported complaint s
 wrong_in tell s = []
 
 abbrev pub wrongs : List Piece → Setting → List Complaint

@@ -2,7 +2,7 @@
 ghost use Rattle.std.specs.Prelude.{◌≡◌, ◌++◌, [], ◌∷◌, true, false};
 ghost use Rattle.tbl_drawing.specs.Pens.{Bytes};
 ghost use Rattle.tbl_drawing.specs.Tapes.{Draws};
-ghost use Rattle.tbl_setting.specs.Held.{still_wide, table_set, table_strokes, told};
+ghost use Rattle.tbl_setting.specs.Held.{reported, still_wide, table_set, table_strokes};
 ghost use Rattle.tbl_setting.specs.Setting as specs;
 ghost use Rattle.tbl_setting.specs.Setting.{Becomes, EndsAs, IsSame, Notes, wrong_in};
 
@@ -87,7 +87,7 @@ impl<'t, 'p, 'k, 'c, W: Sink> Press<'t, 'p, 'k, 'c, W> {
         ensures out { self.new.out ≡ self.old.out }
         ensures setting { self.new.setting ≡ self.old.setting }
         ensures notes { Notes self.old.complaints self.new.complaints self.old.missed self.new.missed
-            (told (still_wide self.old.setting.now)) }
+            (reported (still_wide self.old.setting.now)) }
     {
         if let Some(complaint) = self.setting.still_wide() {
             self.note(complaint);
@@ -99,7 +99,7 @@ impl<'t, 'p, 'k, 'c, W: Sink> Press<'t, 'p, 'k, 'c, W> {
         ensures draws { Draws self.old.out self.new.out (table_strokes true self.old.setting.now) }
         ensures setting { Becomes self.old.setting self.new.setting (table_set true self.old.setting.now) }
         ensures notes { Notes self.old.complaints self.new.complaints self.old.missed self.new.missed
-            (specs.wide_told self.old.setting.now) }
+            (specs.wide_reported self.old.setting.now) }
     {
         self.setting.put_table(true, &mut self.out);
         self.tell_wide();
@@ -110,7 +110,7 @@ impl<'t, 'p, 'k, 'c, W: Sink> Press<'t, 'p, 'k, 'c, W> {
         ensures draws { Draws self.old.out self.new.out (specs.begun_strokes self.old.setting.now) }
         ensures setting { Becomes self.old.setting self.new.setting (specs.begun_ended self.old.setting.now) }
         ensures notes { Notes self.old.complaints self.new.complaints self.old.missed self.new.missed
-            (specs.begun_told self.old.setting.now) }
+            (specs.begun_reported self.old.setting.now) }
     {
         if self.setting.layout.has_begun() {
             self.end_table();
@@ -123,7 +123,7 @@ impl<'t, 'p, 'k, 'c, W: Sink> Press<'t, 'p, 'k, 'c, W> {
             ++ Bytes specs.plain_begin ∷ []) }
         ensures setting { Becomes self.old.setting self.new.setting (specs.begun_ended self.old.setting.now) }
         ensures notes { Notes self.old.complaints self.new.complaints self.old.missed self.new.missed
-            (specs.begun_told self.old.setting.now) }
+            (specs.begun_reported self.old.setting.now) }
     {
         self.ends_begun();
         let _ = self.out.put(b".br\n.nr *u \\n(.u\n.nf\n");
@@ -161,7 +161,7 @@ impl<'t, 'p, 'k, 'c, W: Sink> Press<'t, 'p, 'k, 'c, W> {
         ensures setting { Becomes self.old.setting self.new.setting
             (specs.wrong_heard complaint self.old.setting.now) }
         ensures notes { Notes self.old.complaints self.new.complaints self.old.missed self.new.missed
-            (specs.wrong_told complaint self.old.setting.now) }
+            (specs.wrong_reported complaint self.old.setting.now) }
     {
         if self.setting.waits(complaint.kind) {
             self.setting.set_wide(complaint);

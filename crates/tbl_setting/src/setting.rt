@@ -25,7 +25,7 @@ pub struct Setting {
     pub(crate) cells: usize,
     /// Tables of manual pages that are wider than the line are narrowed.
     pub(crate) fits: bool,
-    /// The table was read as wider than the line, and is narrowed: this is told if it stays so.
+    /// The table was read as wider than the line, and is narrowed: this is reported if it stays so.
     pub(crate) wide: Option<Complaint>,
 }
 
