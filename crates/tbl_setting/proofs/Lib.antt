@@ -2,6 +2,7 @@ mod Heard
 pub mod HeardText
 pub mod Held
 pub mod Pieces
+mod RequestLines
 mod Runs
 mod Steps
 mod Texts

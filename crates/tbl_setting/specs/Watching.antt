@@ -1,7 +1,7 @@
 -- What lines outside of tables say of those that follow (man(7); CSTR 54, `.ad`, `.ll`, `.ds`, `.nr`): that the page is a manual page, whether
 -- full lines are spread, how long lines are and what they are indented, and which strings and registers are defined in plain text. Of a line
 -- of a request 128 bytes are heard, and one of text says nothing.
-use Rattle.std.specs.Prelude.{ℕ, ◌+◌, Bool, true, false, not, ◌==◌, ◌&&◌, ◌||◌, nat_lt, List, [], ◌∷◌, length, drop, Option, None, Some, codes, if◌then◌else◌}
+use Rattle.std.specs.Prelude.{ℕ, ◌+◌, ◌-◌, Bool, true, false, not, ◌==◌, ◌&&◌, ◌||◌, nat_lt, min, List, [], ◌∷◌, ◌++◌, length, take, drop, Option, None, Some, codes, if◌then◌else◌}
 use Prim.Native.Char.{code}
 use Rattle.nr_vectors.specs.Items.{Items}
 use Rattle.tbl_blocks.specs.declared.parts.Known.{Known}
@@ -214,6 +214,16 @@ line_len (b ∷ bs) = if b == code "\n" then 0 else line_len bs + 1
 
 abbrev pub text_len : List ℕ → Watch → ℕ
 text_len text w = if is_text w.line.items then line_len text else 0
+
+-- how many belong to a line of a request that is under way, of which as many are held as have room
+abbrev pub request_len : List ℕ → Watch → ℕ
+request_len text w = if begins_control w.line.items then line_len text else 0
+
+abbrev pub filled : ℕ → List ℕ → Items ℕ → Items ℕ
+filled n text xs = record xs { items = xs.items ++ take (min n (xs.capacity - length xs.items)) text }
+
+abbrev pub held : ℕ → List ℕ → Watch → Watch
+held n text w = record w { line = filled n text w.line }
 
 abbrev pub heard : List ℕ → Watching → Watching
 heard [] s = s

@@ -298,7 +298,22 @@ impl Watch {
         }
     }
 
-    /// The first of these bytes pass: those of a line of text, or one. Tells how many.
+    /// Bytes of a line of a request that is under way are held, as many as have room. Tells how many there are.
+    fn hold(&mut self, text: &[u8]) -> usize
+        ensures count { result ≡ specs.request_len text.now self.old }
+        ensures within { result ≤ length text.now }
+        ensures value { self.new ≡ specs.held result text.now self.old }
+    {
+        if !begins_control(self.line.as_slice()) {
+            return 0;
+        }
+        let len = line_len(text);
+        let room = self.line.capacity() - self.line.len();
+        self.line.extend_prefix(text, len.min(room));
+        len
+    }
+
+    /// The first of these bytes pass: those of a line that is under way, or one. Tells how many.
     fn hear_some(&mut self, text: &[u8], grid: &mut Grid) -> usize
         requires { 0 < length text.now }
         ensures some { 0 < result }
@@ -310,6 +325,10 @@ impl Watch {
         let len = self.text_len(text);
         if len > 0 {
             return len;
+        }
+        let held = self.hold(text);
+        if held > 0 {
+            return held;
         }
         self.hear_byte(text[0], grid);
         1
