@@ -1,7 +1,7 @@
 //! The first bytes of a text are read.
 ghost use Rattle.std.specs.Prelude.{◌≡◌, ◌<◌, ℕ, List, [], Ok, length, true, false, IfOk, OnOk, vec_len};
 ghost use Rattle.utf8_converter.specs.Choosing.{ComesBehind, IsFront};
-ghost use Rattle.utf8_converter.specs.Running.{Ends};
+ghost use Rattle.document_stages.specs.Running.{Ends};
 ghost use Rattle.filters.specs.Disk.{MayCome, Opening};
 ghost use Rattle.filters_own.specs.Looking.{IsFrontIn, ReadsOf};
 

@@ -5,9 +5,10 @@ use Rattle.nr_units.specs.Source.{Supply}
 use Rattle.nr_units.specs.declared.source.Fault.{Fault}
 use Rattle.utf8_characters.specs.declared.table.Table.{Table}
 use Rattle.utf8_converter.specs.Choosing.{Chooses, IsBest, looked_at}
-use Rattle.utf8_converter.specs.Running.{Ran, TellsReads, is_read_fault}
-use Rattle.utf8_converter.specs.declared.running.Outcome.{Outcome}
-use Rattle.utf8_converter.specs.declared.running.Outcome.TheVariants.{Done, ReadFault, TooLong, WriteFault}
+use Rattle.document_stages.specs.Running.{TellsReads, is_read_fault}
+use Rattle.utf8_converter.specs.Running.{Ran}
+use Rattle.document_stages.specs.declared.running.Outcome.{Outcome}
+use Rattle.document_stages.specs.declared.running.Outcome.TheVariants.{Done, ReadFault, TooLong, WriteFault}
 use Rattle.nulbiko.specs.Tables.{number_of}
 use Rattle.nulbiko.specs.Told.{whole_text}
 use Rattle.nulbiko.specs.Utf8.{ChoosesNumber}

@@ -3,7 +3,7 @@ use Rattle.std.specs.Prelude.{◌≡◌, ℕ, ◌-◌, List, [], ◌++◌, Bool,
 use Rattle.utf8_characters.specs.declared.table.Table.{Table}
 use Rattle.utf8_converter.specs.Cells.{converted, strays_of}
 use Rattle.utf8_converter.specs.Lines.{KeepsLines}
-use Rattle.utf8_converter.specs.Showing.{at_most}
+use Rattle.document_stages.specs.Running.{at_most}
 use Rattle.document_stages.specs.Pulling.{whole}
 use Rattle.document_printing.specs.Document.{Prints, Setting, source_of}
 use Rattle.document_printing.specs.declared.setup.Outcome.{Outcome}

@@ -3,9 +3,10 @@ use Rattle.std.specs.Prelude.{◌≡◌, ℕ, List, [], length, take, Bool, fals
 use Rattle.nr_units.specs.Source.{Supply}
 use Rattle.utf8_characters.specs.declared.table.Table.{Table}
 use Rattle.utf8_converter.specs.Choosing.{IsBest, chosen, looked_at}
-use Rattle.utf8_converter.specs.Running.{Ran, is_read_fault}
-use Rattle.utf8_converter.specs.declared.running.Outcome.{Outcome}
-use Rattle.utf8_converter.specs.declared.running.Outcome.TheVariants.{Done, ReadFault, TooLong, WriteFault}
+use Rattle.document_stages.specs.Running.{is_read_fault}
+use Rattle.utf8_converter.specs.Running.{Ran}
+use Rattle.document_stages.specs.declared.running.Outcome.{Outcome}
+use Rattle.document_stages.specs.declared.running.Outcome.TheVariants.{Done, ReadFault, TooLong, WriteFault}
 use Rattle.nulbiko.specs.Tables.{number_of}
 use Rattle.nulbiko.specs.Told.{IsHanded, code_within, whole_text}
 use Rattle.nulbiko.specs.declared.told.Report.{Report}

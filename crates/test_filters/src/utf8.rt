@@ -43,7 +43,7 @@ static TEXTS: [(&str, Page<'static>); 19] = [
     ("boxed", Page::Bytes(b".TS\nbox;\nl.\n\xc4\x99\n.TE\n")),
 ];
 
-static ROWS: [Row; 40] = [
+static ROWS: [Row; 41] = [
     Row {
         words: &[b"utf8", b"latin"],
         output: b"caf\xc3\xa9_",
@@ -251,6 +251,12 @@ static ROWS: [Row; 40] = [
         status: 3,
         line: b"utf8: struck: read fault at byte 5\n",
     },
+    Row {
+        words: &[b"utf8", b"own:scripts", b"cut"],
+        output: b"ab",
+        status: 3,
+        line: b"utf8: cut: read fault at byte 4\n",
+    },
     // The table of what a file prints: after what frames are drawn with comes what is in the file.
     Row {
         words: &[b"utf8", b"own:scripts", b"coded"],
@@ -264,7 +270,7 @@ static ROWS: [Row; 40] = [
         status: 0,
         line: b"",
     },
-    // It is opened before the others, and told by its name.
+    // It is opened before the others, and reported by its name.
     Row {
         words: &[b"utf8", b"own:none", b"missing"],
         output: b"",

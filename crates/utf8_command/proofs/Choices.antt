@@ -1,6 +1,6 @@
 -- The table of a page is printed.
-use Rattle.std.proofs.Common.{◌≡◌, ℕ, List, [], Bool, true, false, Option, None, Some, inr, refl, subst}
-use Rattle.nr_units.specs.Failures.{SinkFailures}
+use Rattle.std.proofs.Common.{◌≡◌, ◌≢◌, ℕ, List, [], Bool, true, false, Option, None, Some, inr, refl, subst, arith}
+use Rattle.nr_units.specs.Failures.{SinkFailures, next_count}
 use Rattle.filters.specs.Disk.{IsUnlooked, Opened, Opening}
 use Rattle.filters.specs.Program.{Answers, Comes, Puts}
 use Rattle.filters.specs.declared.endings.Ending.{Ending}
@@ -8,6 +8,11 @@ use Rattle.filters.specs.declared.endings.Ending.TheVariants.{OutOfMemory}
 use Rattle.filters.proofs.After.{unanswered}
 use Rattle.filters_own.specs.Looking.{IsFrontIn, IsOf}
 use Rattle.utf8_command.specs.Choosing.{ComesToChoice, IsLine, IsLineIn}
+
+-- a call that failed was counted
+pub next-some : next_count 0 ≢ 0
+unfolding next_count
+next-some e = let never : 1 ≡ 0 = e in absurd (omega (arith, never))
 
 line-in : (name : List ℕ) (left : Option (List ℕ)) (front line : List ℕ) → IsFrontIn left front → IsLine name front line → IsLineIn name left line
 line-in name None front line is chosen = tt

@@ -4,10 +4,11 @@ use Rattle.std.specs.Borrow.{Bor}
 use Rattle.utf8_characters.specs.declared.table.Table.{Table}
 use Rattle.utf8_converter.specs.Cells.{converted}
 use Rattle.utf8_converter.specs.Reading.{fed, first_reader}
-use Rattle.utf8_converter.specs.declared.running.Outcome.{Outcome}
-use Rattle.utf8_converter.specs.declared.running.Outcome.TheVariants as outcomes
+use Rattle.document_stages.specs.declared.running.Outcome.{Outcome}
+use Rattle.document_stages.specs.declared.running.Outcome.TheVariants as outcomes
 use Rattle.utf8_own_characters.specs.Table.{Characters}
 use Rattle.utf8_own_sink.specs.Cells as own_sink
+use Rattle.utf8_own_sink.specs.Reading as own_reading
 use Rattle.filters.specs.Program as programs
 use Rattle.filters.specs.Turning.{Filter}
 use Rattle.filters.specs.declared.endings.Ending.{Ending}
@@ -33,12 +34,12 @@ utf8 table escapes = record {
   is_naming = true;
 }
 
--- The same, where bytes from 128 on are those of a page's own table: what of it is cut off ends there.
+-- The same, where bytes from 128 on are those of a page's own table.
 abbrev pub own : Bool → Characters → Filter
 own escapes table = record {
   text_of = λ bytes. bytes;
   whole = own_sink.converted table escapes;
-  begun = own_sink.converted table escapes;
+  begun = λ text. (own_reading.fed table (own_reading.first escapes) text).bytes;
   may_end_line = false;
   complains = λ text. Some false;
   is_naming = true;
@@ -84,8 +85,3 @@ ending_of name outcomes.Done = Done
 ending_of name (outcomes.ReadFault at) = ReadFault (Some name) at
 ending_of name outcomes.TooLong = TooLong (Some name)
 ending_of name outcomes.WriteFault = WriteFault
-
--- the outcome of a text whose end went out or not
-abbrev pub shown : {T E : Type 0} → Outcome → Result T E → Outcome
-shown outcome (Ok x) = outcome
-shown outcome (Err e) = outcomes.WriteFault

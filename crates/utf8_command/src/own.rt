@@ -5,20 +5,17 @@ ghost use Rattle.filters.specs.Disk.{MayCome};
 ghost use Rattle.filters.specs.Program.{Comes, is_unread};
 ghost use Rattle.filters_own.specs.Looking.{ComesTo};
 ghost use Rattle.utf8_own_characters.specs.Table.{Good};
-ghost use Rattle.utf8_command.specs.Converting.{own, shown};
+ghost use Rattle.utf8_command.specs.Converting.{own};
 
-use super::passing::pass_on;
 use super::program::ended;
-use super::unflushed::Unflushed;
+use document_stages::run;
 use filters::{BUFFER_SIZE, Disk, Ending, Paths, Turns, turn_names};
 use filters_own::look_at;
 use nr_units::buffered::Buffered;
 use nr_units::sink::Sink;
-use nr_units::source::Fault;
 use std::io::Read;
-use utf8_converter::Outcome;
 use utf8_own_characters::Table;
-use utf8_own_sink::Shown;
+use utf8_own_sink::Decoder;
 
 /// Turns texts in the bytes of a table.
 #[derive(Drop)]
@@ -27,16 +24,6 @@ struct OwnTurner<'a> {
     escapes: bool,
     input: Vec<u8>,
     ghost good: { Good table.now },
-}
-
-/// The outcome of a text whose end went out or not.
-fn shown(outcome: Outcome, end: Result<(), Fault>) -> Outcome
-    ensures { result ≡ shown outcome end }
-{
-    match end {
-        Ok(()) => outcome,
-        Err(Fault) => Outcome::WriteFault,
-    }
 }
 
 impl Turns for OwnTurner<'_> {
@@ -52,12 +39,11 @@ impl Turns for OwnTurner<'_> {
         _errors: &mut E,
     ) -> (Ending<'a>, W) {
         let mut source = Buffered::over(text, &mut self.input);
-        let unflushed = Unflushed::over(output);
-        let mut room = [0; BUFFER_SIZE];
-        let mut shows = Shown::over(unflushed, self.table, self.escapes, &mut room);
-        let outcome = pass_on(&mut source, &mut shows);
-        let (unflushed, end) = shows.finish();
-        (ended(shown(outcome, end), name), unflushed.into_output())
+        let mut output = output;
+        let mut decoder = Decoder::over(self.table, self.escapes);
+        let mut pending = [0; BUFFER_SIZE];
+        let outcome = run(&mut decoder, &mut source, &mut output, &mut pending);
+        (ended(outcome, name), output)
     }
 }
 

@@ -1,18 +1,18 @@
 -- How a sink that shows bytes in another ends.
-use Rattle.std.proofs.Common.{◌≡◌, ◌≢◌, ℕ, ◌+◌, ◌==◌, List, [], ◌∷◌, ◌++◌, length, Bool, true, false, if◌then◌else◌, Option, None, Some, Result, Ok, Err, OnOk, IfOk, refl, sym, ◌∙◌, ap, subst, arith}
+use Rattle.std.proofs.Common.{◌≡◌, ℕ, ◌+◌, ◌==◌, List, [], ◌∷◌, ◌++◌, length, Bool, true, false, if◌then◌else◌, Option, None, Some, Result, Ok, Err, OnOk, IfOk, refl, sym, ◌∙◌, ap, subst, arith}
 use Rattle.std.proofs.Math.Logic.{∥∥₁_elim}
 use Rattle.std.proofs.Props.{props}
 use Rattle.std.specs.Io.KnownBytes.{Appends}
 use Rattle.nr_units.specs.Failures.{SinkFailures, next_count, put_counted}
 use Rattle.nr_units.specs.Sink.{AppendsPrefix}
 use Rattle.nr_units.specs.declared.source.Fault.{Fault}
+use Rattle.document_stages.specs.Running.{FrontAtErr, at_most}
 use Rattle.utf8_characters.specs.declared.table.Table.{Table}
 use Rattle.utf8_characters.specs.declared.table.Table.TheVariants.{English, Latin, Cyrillic, Greek, Latin1}
 use Rattle.utf8_converter.specs.declared.reader.Reader.{Reader}
 use Rattle.utf8_converter.specs.Cells.{converted, strays_of}
 use Rattle.utf8_converter.specs.Reading.{ended, fed, first_reader}
-use Rattle.utf8_converter.specs.Running.{FrontAtErr}
-use Rattle.utf8_converter.specs.Showing.{Broke, Finishes, Fronts, IsCutOff, IsShown, Making, Sends, Stands, StandsOr, at_most, counted_bytes, made_of, number_of}
+use Rattle.utf8_converter.specs.Showing.{Broke, Finishes, Fronts, IsCutOff, IsShown, Making, Sends, Stands, StandsOr, counted_bytes, made_of, number_of}
 use Rattle.utf8_converter.proofs.Kept.{converted-fed, strays-fed}
 use Rattle.utf8_converter.proofs.Passing.{Broke-more, Fronts-Appends, Fronts-more, Fronts-of, Sends-all, at_most-two}
 use Rattle.utf8_converter.proofs.Text.{converted-lines}

@@ -8,8 +8,10 @@ pub mod Makes
 pub mod Passing
 pub mod Pieces
 pub mod Reading
+pub mod Runs
 pub mod Shaped
 pub mod Spelled
+pub mod Staging
 pub mod Text
 pub mod Turning
 pub mod Undone

@@ -1,7 +1,6 @@
 -- How bytes that are turned pass on to another sink.
-use Rattle.std.proofs.Common.{◌≡◌, ℕ, ◌+◌, ◌-◌, ◌^◌, ◌<◌, ◌≤◌, ◌==◌, List, [], ◌∷◌, ◌++◌, length, take, drop, get_or, Bool, true, false, if◌then◌else◌, Option, None, Some, Result, Ok, Err, IsErr, OnOk, refl, sym, ◌∙◌, ap, subst, append_assoc, append-nil, length-append, arith}
-use Rattle.std.proofs.Math.Logic.{∥∥₁_elim, ∥∥₁_map}
-use Rattle.std.proofs.Props.{props}
+use Rattle.std.proofs.Common.{◌≡◌, ℕ, ◌+◌, ◌-◌, ◌^◌, ◌<◌, ◌≤◌, List, [], ◌++◌, length, take, drop, Bool, true, false, Option, None, Some, Result, Ok, Err, IsErr, OnOk, refl, sym, ◌∙◌, ap, subst, append_assoc, append-nil, length-append, arith}
+use Rattle.std.proofs.Math.Logic.{∥∥₁_map}
 use Rattle.std.specs.Result.{is_err}
 use Rattle.std.specs.Io.KnownBytes.{Appends, Keeps}
 use Rattle.std.proofs.KnownBytes.{Appends-trans, Appends-nil}
@@ -11,18 +10,13 @@ use Rattle.nr_units.specs.Failures.{SinkFailures, next_count, put_counted}
 use Rattle.nr_units.specs.Sink.{AppendsPrefix}
 use Rattle.nr_units.specs.declared.source.Fault.{Fault}
 use Rattle.nr_units.proofs.Prefixes.{AppendsPrefix-append, AppendsPrefix-after}
-use Rattle.utf8_characters.specs.declared.table.Table.{Table}
-use Rattle.utf8_characters.specs.declared.table.Table.TheVariants.{English, Latin, Cyrillic, Greek, Latin1}
+use Rattle.document_stages.specs.Running.{Flushes, FrontAtErr, at_most}
 use Rattle.utf8_converter.specs.declared.reader.Reader.{Reader}
-use Rattle.utf8_converter.specs.Cells.{converted, strays_of}
-use Rattle.utf8_converter.specs.Reading.{Told, ended, fed, first_reader, read}
-use Rattle.utf8_converter.specs.Spelling as spelling
-use Rattle.utf8_converter.specs.Spelling.{Fills}
-use Rattle.utf8_converter.specs.Running.{Flushes, FrontAtErr}
-use Rattle.utf8_converter.specs.Showing.{Broke, Fronts, IsCutOff, IsShown, Making, Reads, Sends, Stands, StandsOr, TakesAll, TakesSome, at_most, counted_bytes, made_of, number_of}
-use Rattle.utf8_converter.proofs.Kept.{converted-fed, strays-fed}
-use Rattle.utf8_converter.proofs.Reading.{fed-append, fed-append_bytes, fed-append_reader, fed-append_strays}
-use Rattle.utf8_converter.proofs.Text.{converted-lines}
+use Rattle.utf8_converter.specs.Reading.{Told, fed, first_reader}
+use Rattle.utf8_converter.specs.Staged.{ReadsSome}
+use Rattle.utf8_converter.specs.Showing.{Broke, Fronts, Making, Reads, Sends, Stands, StandsOr, TakesAll, TakesSome}
+use Rattle.utf8_converter.proofs.Reading.{fed-append_bytes, fed-append_reader, fed-append_strays}
+use Rattle.utf8_converter.proofs.Staging.{at_most-none}
 
 -- ---- what waits
 
@@ -42,9 +36,6 @@ Fronts-then a b c p left g f front =
 
 at_most-more : (i a b : ℕ) → at_most (at_most (i + a) + b) ≡ at_most (i + (a + b))
 at_most-more i a b = omega arith
-
-at_most-none : (i : ℕ) → i < 2 ^ 64 → i ≡ at_most (i + 0)
-at_most-none i l = omega (arith, l)
 
 -- ---- bytes are taken
 
@@ -69,47 +60,12 @@ Reads-then a b c r s u p q left i j k xs ys f g =
       made = g.made ∙ ap (λ (n : ℕ). at_most (n + (fed s ys).strays)) f.made ∙ at_most-more i F.strays (fed s ys).strays ∙ ap (λ (n : ℕ). at_most (i + n)) (sym strays);
     }
 
--- cells, or one byte
-pub cells-bytes : (r s : Reader) (bs : List ℕ) (n : ℕ) (room : List ℕ) (end : ℕ) → spelling.Reads r s bs n room end → take end room ≡ (fed r (take n bs)).bytes
-cells-bytes r s bs n room end reads = sym (ap (λ (t : Told). t.bytes) reads.all)
-
-pub Reads-cells : (a b : Option (List ℕ)) (r s : Reader) (p left : List ℕ) (i : ℕ) (bs : List ℕ) (n : ℕ) (room : List ℕ) (end : ℕ) → i < 2 ^ 64 → spelling.Reads r s bs n room end
-    → Flushes a b (p ++ take end room) left → Reads a b r s p left i i (take n bs)
-Reads-cells a b r s p left i bs n room end l reads out =
+-- some of them
+pub Reads-some : (a b : Option (List ℕ)) (r s : Reader) (p left : List ℕ) (i j : ℕ) (bs : List ℕ) (n : ℕ) (room : List ℕ) (end : ℕ) → ReadsSome r s bs n room end i j
+    → Flushes a b (p ++ take end room) left → Reads a b r s p left i j (take n bs)
+Reads-some a b r s p left i j bs n room end reads out =
     let P : List ℕ → Type 0 = λ xs. Flushes a b (p ++ xs) left in
-    record {
-      reader = sym (ap (λ (t : Told). t.reader) reads.all);
-      out = subst P (cells-bytes r s bs n room end reads) out;
-      made = at_most-none i l ∙ ap (λ (k : ℕ). at_most (i + k)) (sym (ap (λ (t : Told). t.strays) reads.all));
-    }
-
-pub none-read : (r s : Reader) (bs : List ℕ) (n : ℕ) (room : List ℕ) (end : ℕ) → n ≡ 0 → spelling.Reads r s bs n room end → s ≡ r
-none-read r s bs n room end zero reads = sym (ap (λ (t : Told). t.reader) reads.all) ∙ ap (λ (k : ℕ). (fed r (take k bs)).reader) zero
-
-one_byte : (bs : List ℕ) → 0 < length bs → take 1 bs ≡ get_or bs 0 0 ∷ []
-one_byte [] some = absurd (omega (arith, some))
-one_byte (b ∷ bs) some = refl
-
-none_more : (n : ℕ) → n + 0 ≡ n
-none_more n = omega arith
-
-pub byte-bytes : (r q s : Reader) (bs old room : List ℕ) (end k : ℕ) → 0 < length bs → q ≡ r → Fills (read (get_or bs 0 0) q) s old 0 room end k → take end room ≡ (fed r (take 1 bs)).bytes
-byte-bytes r q s bs old room end k some same fills =
-    let b = get_or bs 0 0 in
-    fills.put ∙ ap (λ (x : Reader). (read b x).bytes) same ∙ sym (append-nil (read b r).bytes) ∙ ap (λ (xs : List ℕ). (fed r xs).bytes) (sym (one_byte bs some))
-
-pub Reads-byte : (a c : Option (List ℕ)) (r q s : Reader) (p left : List ℕ) (i j k : ℕ) (bs old room : List ℕ) (end : ℕ) → 0 < length bs → q ≡ r → Fills (read (get_or bs 0 0) q) s old 0 room end k
-    → Flushes a c (p ++ take end room) left → j ≡ at_most (i + k) → Reads a c r s p left i j (take 1 bs)
-Reads-byte a c r q s p left i j k bs old room end some same fills out count =
-    let b = get_or bs 0 0 in
-    let P : List ℕ → Type 0 = λ xs. Flushes a c (p ++ xs) left in
-    let strays : k ≡ (fed r (take 1 bs)).strays =
-    fills.made ∙ ap (λ (x : Reader). (read b x).strays) same ∙ sym (none_more (read b r).strays) ∙ ap (λ (xs : List ℕ). (fed r xs).strays) (sym (one_byte bs some)) in
-    record {
-      reader = fills.reader ∙ ap (λ (x : Reader). (read b x).reader) same ∙ ap (λ (xs : List ℕ). (fed r xs).reader) (sym (one_byte bs some));
-      out = subst P (byte-bytes r q s bs old room end k some same fills) out;
-      made = count ∙ ap (λ (n : ℕ). at_most (i + n)) strays;
-    }
+    record { reader = reads.reader; out = subst P reads.out out; made = reads.made }
 
 -- a front of what these bytes come to is one of what more come to
 pub Front-more : (a b : Option (List ℕ)) (r : Reader) (p : List ℕ) (n : ℕ) (bytes : List ℕ) → AppendsPrefix a b (p ++ (fed r (take n bytes)).bytes) → AppendsPrefix a b (p ++ (fed r bytes).bytes)

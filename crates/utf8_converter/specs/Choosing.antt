@@ -3,12 +3,12 @@ use Prim.Native.Char.{code}
 use Rattle.std.specs.Prelude.{◌≡◌, ℕ, zero, suc, ◌+◌, ◌*◌, ◌%◌, ◌<◌, ◌≤◌, List, [], ◌∷◌, ◌++◌, length, take, get_or, Bool, ◌==◌, ◌&&◌, nat_lt, if◌then◌else◌, Option, None, Some, Result, Ok, Err, ⊤, ◌⊎◌}
 use Rattle.std.specs.List.{sum_by}
 use Rattle.nr_units.specs.Source.{Supply}
+use Rattle.document_stages.specs.Running.{Ends}
 use Rattle.utf8_characters.specs.declared.table.Table.{Table}
 use Rattle.utf8_characters.specs.declared.table.Table.TheVariants.{English, Latin, Cyrillic, Greek, Latin1}
 use Rattle.utf8_characters.specs.OneCell.{is_within}
 use Rattle.utf8_characters.specs.Tables.{characters}
 use Rattle.utf8_converter.specs.declared.names.TheConstants.{NAMES}
-use Rattle.utf8_converter.specs.Running.{Comes, Ends}
 
 -- ---- the characters of a page (RFC 3629): those of tables have two bytes or three
 
@@ -116,6 +116,12 @@ fullest_by counts = better_by counts (better_by counts (better_by counts English
 
 abbrev pub chosen_by : List ℕ → Table
 chosen_by counts = if_any (covered_by counts (fullest_by counts)) (fullest_by counts)
+
+-- these bytes came
+abbrev pub Comes : Option Supply → List ℕ → Option Supply → Type 0
+Comes None bytes new = ⊤
+Comes (Some q) bytes None = ⊥
+Comes (Some q) bytes (Some t) = q.bytes ≡ bytes ++ t.bytes
 
 -- some bytes came behind these
 pub record ComesBehind (old new : Option Supply) (before items : List ℕ) : Type 0 where

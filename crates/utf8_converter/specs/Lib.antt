@@ -6,5 +6,6 @@ pub mod Running
 pub mod Shapes
 pub mod Showing
 pub mod Spelling
+pub mod Staged
 pub mod Text
 pub mod Undoing

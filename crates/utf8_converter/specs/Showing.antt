@@ -1,14 +1,14 @@
 -- A sink that shows bytes in another sink.
-use Rattle.std.specs.Prelude.{◌≡◌, ℕ, ◌+◌, ◌-◌, ◌^◌, ◌<◌, ◌≤◌, min, List, [], ◌∷◌, ◌++◌, length, take, Bool, true, false, if◌then◌else◌, Option, None, Some, Result, Ok, Err, ⊤}
+use Rattle.std.specs.Prelude.{◌≡◌, ℕ, ◌+◌, ◌<◌, ◌≤◌, List, [], ◌∷◌, ◌++◌, length, take, Bool, true, false, if◌then◌else◌, Option, None, Some, Result, Ok, Err, ⊤}
 use Rattle.std.specs.Io.KnownBytes.{Appends}
 use Rattle.nr_units.specs.Failures.{SinkFailures, next_count}
 use Rattle.nr_units.specs.Sink.{AppendsPrefix}
+use Rattle.document_stages.specs.Running.{Flushes, at_most}
 use Rattle.utf8_characters.specs.declared.table.Table.{Table}
 use Rattle.utf8_characters.specs.declared.table.Table.TheVariants.{English, Latin, Cyrillic, Greek, Latin1}
 use Rattle.utf8_converter.specs.Cells.{converted, strays_of}
 use Rattle.utf8_converter.specs.Lines.{KeepsLines}
 use Rattle.utf8_converter.specs.Reading.{fed, first_reader}
-use Rattle.utf8_converter.specs.Running.{Flushes}
 use Rattle.utf8_converter.specs.declared.reader.Reader.{Reader}
 
 -- ---- what it is made of
@@ -55,10 +55,6 @@ abbrev pub Fronts : Option (List ℕ) → Option (List ℕ) → List ℕ → Typ
 Fronts None held text = ⊤
 Fronts (Some xs) None text = ⊥
 Fronts (Some xs) (Some ys) text = (take (length ys) (xs ++ text) ≡ ys) × (length xs ≤ length ys)
-
--- a count that stops at the highest number
-abbrev pub at_most : ℕ → ℕ
-at_most n = min n (2 ^ 64 - 1)
 
 -- ---- bytes are taken
 

@@ -3,7 +3,7 @@ ghost use Rattle.std.specs.Prelude.{◌≡◌, ◌<◌, ◌≤◌, [], length, g
 ghost use Rattle.std.specs.List.{sum_by};
 ghost use Rattle.nr_units.specs.Failures.{counted};
 ghost use Rattle.utf8_converter.specs.Choosing as specs;
-ghost use Rattle.utf8_converter.specs.Running.{Ends};
+ghost use Rattle.document_stages.specs.Running.{Ends};
 
 use super::names::{NAMES, Name};
 use nr_units::source::{Fault, Source};

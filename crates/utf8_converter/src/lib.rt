@@ -1,6 +1,6 @@
 //! The bytes of a table of characters, turned into UTF-8 for a terminal.
 //!
-//! It stands on nr_units, nr_vectors and utf8_characters. To read: `reader`, `spelling`, `cells`, `shapes`, `rows`, `running`, `turner`, `came`, `showing`, `undoing`, `names`, `choosing`.
+//! It stands on nr_units, nr_vectors, utf8_characters and document_stages. To read: `reader`, `spelling`, `cells`, `shapes`, `rows`, `staged`, `running`, `waiting`, `came`, `showing`, `undoing`, `names`, `choosing`.
 #![tactic(auto)]
 
 mod came;
@@ -13,11 +13,14 @@ mod running;
 mod shapes;
 mod showing;
 mod spelling;
-mod turner;
+mod staged;
 mod undoing;
+mod waiting;
 
 pub use came::Came;
 pub use choosing::{CHARACTERS, LOOKED_AT, choose};
-pub use running::{Outcome, convert};
+pub use document_stages::Outcome;
+pub use running::convert;
 pub use showing::Shown;
+pub use staged::Turner;
 pub use undoing::byte_for;

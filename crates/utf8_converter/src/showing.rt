@@ -7,7 +7,7 @@ ghost use Rattle.utf8_converter.specs.Cells.{converted};
 ghost use Rattle.utf8_converter.specs.Showing.{Making, Finishes, StandsOr, made_of};
 
 use super::came::Came;
-use super::turner::Turner;
+use super::waiting::Waiting;
 use nr_units::sink::Sink;
 use nr_units::source::{Fault, next_count};
 use std::marker::Model;
@@ -28,7 +28,7 @@ pub struct Shown<'a, W: Sink> {
     came: Came,
     table: Table,
     escapes: bool,
-    turner: Turner<'a>,
+    waiting: Waiting<'a>,
     broken: bool,
     flushed: bool,
     failed_puts: u64,
@@ -38,7 +38,7 @@ pub struct Shown<'a, W: Sink> {
       escapes = escapes;
       begun = W.held begun.value;
       failed = (W.failures begun.value).puts;
-    }) came.bytes (W.held output) (W.failures output).puts turner.reader turner.out.items turner.strays ∥₁ } by { ∥∥₁_prop },
+    }) came.bytes (W.held output) (W.failures output).puts waiting.turner.reader waiting.out.items waiting.turner.strays ∥₁ } by { ∥∥₁_prop },
     ghost counts: { broken ≡ false → failed_puts ≡ 0 },
 }
 
@@ -80,7 +80,7 @@ impl<'a, W: Sink> Shown<'a, W> {
             came: Came::nothing(),
             table,
             escapes,
-            turner: Turner::new(table, escapes, room),
+            waiting: Waiting::new(table, escapes, room),
             broken: false,
             flushed: false,
             failed_puts: 0,
@@ -106,7 +106,7 @@ impl<'a, W: Sink> Shown<'a, W> {
             came: _,
             table: _,
             escapes: _,
-            mut turner,
+            mut waiting,
             broken,
             flushed: _,
             failed_puts: _,
@@ -115,7 +115,7 @@ impl<'a, W: Sink> Shown<'a, W> {
         if broken {
             return (output, Err(Fault));
         }
-        let strays = turner.close(&mut output);
+        let strays = waiting.close(&mut output);
         (output, strays)
     }
 }
@@ -131,7 +131,7 @@ impl<'a, W: Sink> Sink for Shown<'a, W> {
 
     fn put(&mut self, bytes: &[u8]) -> Result<(), Fault> {
         self.came.note(bytes);
-        if self.broken || self.turner.take_all(bytes, &mut self.output).is_err() {
+        if self.broken || self.waiting.take_all(bytes, &mut self.output).is_err() {
             self.broken = true;
             self.failed_puts = next_count(self.failed_puts);
             return Err(Fault);
@@ -143,7 +143,7 @@ impl<'a, W: Sink> Sink for Shown<'a, W> {
     }
 
     fn flush(&mut self) -> Result<(), Fault> {
-        if self.broken || self.turner.pass_on(&mut self.output).is_err() {
+        if self.broken || self.waiting.pass_on(&mut self.output).is_err() {
             self.broken = true;
             self.failed_flushes = next_count(self.failed_flushes);
             return Err(Fault);

@@ -6,7 +6,7 @@ use Rattle.std.specs.Io.KnownBytes.{Appends}
 use Rattle.nr_units.specs.Failures.{SinkFailures, next_count, put_counted}
 use Rattle.nr_units.specs.Sink.{AppendsPrefix}
 use Rattle.nr_units.specs.declared.source.Fault.{Fault}
-use Rattle.utf8_converter.specs.Running.{FrontAtErr}
+use Rattle.document_stages.specs.Running.{FrontAtErr}
 use Rattle.utf8_converter.specs.Showing.{Fronts, Sends, counted_bytes}
 use Rattle.utf8_converter.proofs.Passing.{Fronts-Appends, Fronts-more, Fronts-of, Sends-all}
 use Rattle.utf8_own_characters.specs.Table.{Characters}

@@ -5,7 +5,7 @@ use Rattle.nr_vectors.specs.declared.cell.Look.TheVariants.{Plain}
 use Rattle.utf8_own_characters.specs.Table.{Characters}
 use Rattle.utf8_own_sink.specs.Cells.{alone, begun, cells, converted, lead_after, letters, letters_of, plain, strikes, struck}
 use Rattle.utf8_own_sink.specs.Letters.{Letter, drawn, printed, way_past}
-use Rattle.utf8_own_sink.specs.Reading.{after, begun_after, begun_said, cell_after, cell_said, drawn_all, ended, fed, first, next_after, next_said, released, released_said, rest, said, ways_past, with_half}
+use Rattle.utf8_own_sink.specs.Reading.{after, begun_after, begun_said, cell_after, cell_said, decoding, drawn_all, ended, fed, first, next_after, next_said, released, released_said, rest, said, ways_past, with_half}
 use Rattle.utf8_own_sink.specs.declared.cells.Cell.{Cell}
 use Rattle.utf8_own_sink.specs.declared.cells.Half.{Half}
 use Rattle.utf8_own_sink.specs.declared.cells.Half.TheVariants.{Nothing, Byte, Backspaced}
@@ -69,13 +69,14 @@ byte-goes t Nothing b bs r = begun-goes t b bs r
 byte-goes t (Byte a) b bs r = byte_by t a b bs r (b == 8)
 byte-goes t (Backspaced a) b bs r = struck_by t a b bs r (strikes a b)
 
-fed-goes : (t : Characters) (r : Reader) (bs : List ℕ) → rest t r bs ≡ (fed t r bs).bytes ++ rest t (fed t r bs).reader []
+-- what comes of bytes and others after them
+pub rest-parts : (t : Characters) (r : Reader) (xs ys : List ℕ) → rest t r (xs ++ ys) ≡ (fed t r xs).bytes ++ rest t (fed t r xs).reader ys
 unfolding shows
-fed-goes t r [] = refl
-fed-goes t r (b ∷ bs) =
+rest-parts t r [] ys = refl
+rest-parts t r (b ∷ bs) ys =
     let s = after t r.half b r in
-    byte-goes t r.half b bs r ∙ ap (λ (zs : List ℕ). said t r.half b r ++ zs) (fed-goes t s bs)
-    ∙ sym (append_assoc (said t r.half b r) (fed t s bs).bytes (rest t (fed t s bs).reader []))
+    byte-goes t r.half b (bs ++ ys) r ∙ ap (λ (zs : List ℕ). said t r.half b r ++ zs) (rest-parts t s bs ys)
+    ∙ sym (append_assoc (said t r.half b r) (fed t s bs).bytes (rest t (fed t s bs).reader ys))
 
 -- ---- the end
 
@@ -96,11 +97,15 @@ end-goes t Nothing r = last-goes r.way r.lead
 end-goes t (Byte a) r = byte-ends t a r
 end-goes t (Backspaced a) r = byte-ends t a r
 
-pub converted-fed : (t : Characters) (escapes : Bool) (bs : List ℕ) → converted t escapes bs ≡ (fed t (first escapes) bs).bytes ++ ended t (fed t (first escapes) bs).reader
+pub rest-ended : (t : Characters) (r : Reader) → rest t r [] ≡ ended t r
 unfolding shows
+rest-ended t r = end-goes t r.half r
+
+pub converted-fed : (t : Characters) (escapes : Bool) (bs : List ℕ) → converted t escapes bs ≡ (fed t (first escapes) bs).bytes ++ ended t (fed t (first escapes) bs).reader
 converted-fed t escapes bs =
     let r = (fed t (first escapes) bs).reader in
-    fed-goes t (first escapes) bs ∙ ap (λ (zs : List ℕ). (fed t (first escapes) bs).bytes ++ zs) (end-goes t r.half r)
+    ap (λ (zs : List ℕ). rest t (first escapes) zs) (sym (append-nil bs)) ∙ rest-parts t (first escapes) bs []
+    ∙ ap (λ (zs : List ℕ). (fed t (first escapes) bs).bytes ++ zs) (rest-ended t r)
 
 -- ---- bytes behind others
 
@@ -114,3 +119,18 @@ fed-append_bytes t r (x ∷ xs) ys =
     let s = after t r.half x r in
     ap (λ (zs : List ℕ). said t r.half x r ++ zs) (fed-append_bytes t s xs ys)
     ∙ sym (append_assoc (said t r.half x r) (fed t s xs).bytes (fed t (fed t s xs).reader ys).bytes)
+
+-- ---- a text in parts
+
+decoding-parts : (t : Characters) (r : Reader) (ends : Bool) (xs ys : List ℕ) → decoding t r ends (xs ++ ys) ≡ (fed t r xs).bytes ++ decoding t (fed t r xs).reader ends ys
+decoding-parts t r true xs ys = rest-parts t r xs ys
+decoding-parts t r false xs ys = fed-append_bytes t r xs ys
+
+-- of what was put, and what the reader became
+pub decoding-taken : (t : Characters) (r s : Reader) (xs waits items : List ℕ) → s ≡ (fed t r xs).reader → items ≡ waits ++ (fed t r xs).bytes
+    → (ends : Bool) → (ys : List ℕ) → waits ++ decoding t r ends (xs ++ ys) ≡ items ++ decoding t s ends ys
+decoding-taken t r s xs waits items is out ends ys =
+    ap (λ (z : List ℕ). waits ++ z) (decoding-parts t r ends xs ys)
+    ∙ sym (append_assoc waits (fed t r xs).bytes (decoding t (fed t r xs).reader ends ys))
+    ∙ ap (λ (z : List ℕ). z ++ decoding t (fed t r xs).reader ends ys) (sym out)
+    ∙ ap (λ (z : Reader). items ++ decoding t z ends ys) (sym is)

@@ -10,7 +10,7 @@ use Rattle.nr_units.specs.Failures.{SinkFailures, next_count, put_counted}
 use Rattle.nr_units.specs.Sink.{AppendsPrefix}
 use Rattle.nr_units.specs.declared.source.Fault.{Fault}
 use Rattle.nr_units.proofs.Prefixes.{AppendsPrefix-append}
-use Rattle.utf8_converter.specs.Running.{Flushes, FrontAtErr}
+use Rattle.document_stages.specs.Running.{Flushes, FrontAtErr}
 use Rattle.utf8_converter.specs.Showing.{Fronts, Sends}
 use Rattle.utf8_converter.proofs.Passing.{Flushes-then, Fronts-more, Fronts-of, Fronts-then, Sends-kept, Sends-on, puts-failed, puts-went}
 use Rattle.utf8_own_characters.specs.Table.{Characters}

@@ -1,6 +1,6 @@
 -- What goes out byte by byte.
 use Prim.Native.Char.{code}
-use Rattle.std.specs.Prelude.{ℕ, List, [], ◌∷◌, ◌++◌, Bool, not, ◌==◌, ◌&&◌, ◌||◌, nat_le, nat_lt, is_some, if◌then◌else◌, Option, None, Some}
+use Rattle.std.specs.Prelude.{ℕ, List, [], ◌∷◌, ◌++◌, Bool, true, false, not, ◌==◌, ◌&&◌, ◌||◌, nat_le, nat_lt, is_some, if◌then◌else◌, Option, None, Some}
 use Rattle.nr_vectors.specs.declared.cell.Look.{Look}
 use Rattle.nr_vectors.specs.declared.cell.Look.TheVariants.{Plain}
 use Rattle.utf8_converter.specs.Cells.{is_same}
@@ -113,3 +113,8 @@ ended t r =
 
 abbrev pub rest : Characters → Reader → List ℕ → List ℕ
 rest t r bytes = printed r.way (letters t r.lead (cells r.half r.before bytes))
+
+-- of a text that is to come, and of its end, if it comes
+abbrev pub decoding : Characters → Reader → Bool → List ℕ → List ℕ
+decoding t r true bytes = rest t r bytes
+decoding t r false bytes = (fed t r bytes).bytes

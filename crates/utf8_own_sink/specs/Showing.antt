@@ -3,7 +3,7 @@ use Rattle.std.specs.Prelude.{◌≡◌, ℕ, List, [], ◌∷◌, ◌++◌, Boo
 use Rattle.std.specs.Io.KnownBytes.{Appends}
 use Rattle.nr_units.specs.Failures.{next_count}
 use Rattle.nr_units.specs.Sink.{AppendsPrefix}
-use Rattle.utf8_converter.specs.Running.{Flushes}
+use Rattle.document_stages.specs.Running.{Flushes}
 use Rattle.utf8_converter.specs.Showing.{Fronts, Sends, counted_bytes}
 use Rattle.utf8_own_characters.specs.Table.{Characters}
 use Rattle.utf8_own_characters.specs.declared.cluster.Cluster.{Cluster}

@@ -336,6 +336,7 @@ impl Reader {
     pub(crate) fn finish(&mut self, table: &Table<'_>, out: &mut SliceVec<'_, u8>)
         requires { length out.old.items + 256 ≤ out.old.capacity }
         ensures items { out.new.items ≡ out.old.items ++ ended table.now self.old }
+        ensures few { length out.new.items ≤ length out.old.items + 256 }
         ensures room { out.new.capacity ≡ out.old.capacity }
     {
         self.release(table, out);

@@ -2,7 +2,7 @@
 ghost use Rattle.std.specs.Prelude.{◌≡◌, ◌+◌, ◌≤◌, [], ◌∷◌, ◌++◌, length, OnOk};
 ghost use Rattle.std.specs.Io.KnownBytes.{Appends};
 ghost use Rattle.nr_units.specs.Failures.{put_counted};
-ghost use Rattle.utf8_converter.specs.Running.{Flushes, FrontAtErr};
+ghost use Rattle.document_stages.specs.Running.{Flushes, FrontAtErr};
 ghost use Rattle.utf8_own_characters.specs.Table.{Characters};
 ghost use Rattle.utf8_own_sink.specs.Reading.{ended, first};
 ghost use Rattle.utf8_own_sink.specs.Showing as specs;

@@ -1,5 +1,5 @@
 use Rattle.std.proofs.Common.{◌≡◌, ◌-◌, length}
-use Rattle.utf8_converter.specs.Running.{Comes}
+use Rattle.utf8_converter.specs.Choosing.{Comes}
 use Rattle.filters_own.proofs.fronts.read_front.Given as goal
 
 abbrev pub invariant-loop-input : goal.invariant-loop-input

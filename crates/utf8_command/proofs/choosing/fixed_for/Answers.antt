@@ -2,7 +2,7 @@ use Rattle.std.proofs.Common.{◌≡◌, Option, Ok, sym, subst}
 use Rattle.nr_units.specs.Source.{Supply}
 use Rattle.nr_units.specs.declared.source.Fault.{Fault}
 use Rattle.utf8_converter.specs.Choosing.{Chooses}
-use Rattle.utf8_command.proofs.Owning.{next-some}
+use Rattle.utf8_command.proofs.Choices.{next-some}
 use Rattle.utf8_command.proofs.choosing.fixed_for.Goals as goal
 
 pub unreachable-requires : goal.unreachable-requires

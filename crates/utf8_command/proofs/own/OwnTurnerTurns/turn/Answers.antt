@@ -1,37 +1,29 @@
-use Rattle.std.proofs.Common.{◌∙◌}
-use Rattle.utf8_command.proofs.Owning.{begun-told, failed-then, turned}
+use Rattle.std.proofs.Common.{◌≡◌, ℕ, List, Bool, Option, subst}
+use Rattle.std.specs.Borrow.{Bor}
+use Rattle.nr_units.specs.Source.{Supply, reader_supply}
+use Rattle.document_stages.specs.Running.{Ran}
+use Rattle.document_stages.specs.declared.running.Outcome.{Outcome}
+use Rattle.utf8_own_characters.specs.Table.{Characters}
+use Rattle.utf8_own_sink.specs.Reading.{decoding, first}
+use Rattle.filters.specs.Turning.{Turned}
+use Rattle.filters.specs.declared.endings.Ending.{Ending}
+use Rattle.utf8_command.specs.Converting.{ending_of, own}
+use Rattle.utf8_command.proofs.Turns.{failures, turned}
 use Rattle.utf8_command.proofs.own.OwnTurnerTurns.turn.Goals as goal
+
+own_turned : (table : Characters) (escapes : Bool) (name : Bor (List ℕ)) (left : Option (List ℕ)) (says : Bool → List ℕ → List ℕ) (counts : Bool → List ℕ → ℕ)
+    (wants : ℕ) (from last : Option Supply) (held new : Option (List ℕ)) (count : ℕ) (outcome : Outcome) (ending : Ending)
+    → says ≡ decoding table (first escapes) → from ≡ reader_supply left → Ran says counts wants from last held new count outcome
+    → ending ≡ ending_of name outcome → Turned (own escapes table) (record { name = name.now; left = left }) held new ending
+own_turned table escapes name left says counts wants from last held new count outcome ending is supply ran =
+    turned (decoding table (first escapes)) counts wants name left from last held new count outcome ending supply
+    (subst (λ (f : Bool → List ℕ → List ℕ). Ran f counts wants from last held new count outcome) is ran)
 
 pub returns-clause-turned : goal.returns-clause-turned
 returns-clause-turned g c =
-    let shows = c.pass_on-outcome.new.output in
-    let both = turned c.args.self.now.table.now c.args.self.now.escapes c.args.name _ _ _ (g.W.Sink.held c.args.output) (g.W.Sink.held c.into_output.result)
-    (g.W.Sink.failures c.args.output) (g.W.Sink.failures c.into_output.result) c.over-shows.result.bytes shows.bytes _ _ shows.failures.puts
-    c.pass_on-outcome.result c.finish-unflushed.result.1 c.over-source.ensures.supply
-    (c.over-shows.ensures.held ∙ begun-told _ _ (g.W.Sink.held c.args.output) (g.W.Sink.failures c.args.output) _ _ c.over-unflushed.ensures.held c.over-unflushed.ensures.failures)
-    c.pass_on-outcome.ensures.passed (record {
-      shown = c.finish-unflushed.ensures.shown;
-      broke = c.finish-unflushed.ensures.broke;
-      fails = c.finish-unflushed.ensures.fails;
-    }) (failed-then c.pass_on-outcome.result c.over-shows.result.failures shows.failures c.over-shows.ensures.failures c.pass_on-outcome.ensures.failures) (record {
-      tells = λ bytes is. c.into_output.ensures.told (g.W.Sink.held c.args.output) (g.W.Sink.failures c.args.output).flushes bytes is;
-      puts_are = c.into_output.ensures.failures;
-    }) in
-    rw c.ended.ensures (rw c.shown.ensures both.0)
+    let s = c.args.self.now in
+    own_turned s.table.now s.escapes c.args.name _ _ _ _ _ _ _ _ _ c.run-outcome.result _ c.over-decoder.ensures.says c.over-source.ensures.supply
+    c.run-outcome.ensures.ran c.ended.ensures
 
 pub returns-clause-failures : goal.returns-clause-failures
-returns-clause-failures g c =
-    let shows = c.pass_on-outcome.new.output in
-    let both = turned c.args.self.now.table.now c.args.self.now.escapes c.args.name _ _ _ (g.W.Sink.held c.args.output) (g.W.Sink.held c.into_output.result)
-    (g.W.Sink.failures c.args.output) (g.W.Sink.failures c.into_output.result) c.over-shows.result.bytes shows.bytes _ _ shows.failures.puts
-    c.pass_on-outcome.result c.finish-unflushed.result.1 c.over-source.ensures.supply
-    (c.over-shows.ensures.held ∙ begun-told _ _ (g.W.Sink.held c.args.output) (g.W.Sink.failures c.args.output) _ _ c.over-unflushed.ensures.held c.over-unflushed.ensures.failures)
-    c.pass_on-outcome.ensures.passed (record {
-      shown = c.finish-unflushed.ensures.shown;
-      broke = c.finish-unflushed.ensures.broke;
-      fails = c.finish-unflushed.ensures.fails;
-    }) (failed-then c.pass_on-outcome.result c.over-shows.result.failures shows.failures c.over-shows.ensures.failures c.pass_on-outcome.ensures.failures) (record {
-      tells = λ bytes is. c.into_output.ensures.told (g.W.Sink.held c.args.output) (g.W.Sink.failures c.args.output).flushes bytes is;
-      puts_are = c.into_output.ensures.failures;
-    }) in
-    rw c.ended.ensures (rw c.shown.ensures both.1)
+returns-clause-failures g c = failures c.args.name c.run-outcome.result _ _ _ c.ended.ensures c.run-outcome.ensures.write_faults

@@ -1,5 +1,6 @@
 use Rattle.std.proofs.Common.{arith}
 use Rattle.std.proofs.lemmas.Grind.{common_steps}
+use Rattle.utf8_converter.specs.Running.{drops, says}
 use Rattle.utf8_command.proofs.Turns.{failures, turned}
 use Rattle.utf8_command.proofs.program.TurnerTurns.turn.Goals as goal
 
@@ -8,7 +9,8 @@ invariant_of-self g c = grind (arith, common_steps)
 
 pub returns-clause-turned : goal.returns-clause-turned
 returns-clause-turned g c =
-    turned c.args.self.now.how.0 c.args.self.now.how.1 c.args.name _ _ _ _ _ _ c.convert-outcome.result _ c.over-source.ensures.supply c.convert-outcome.ensures.ran c.ended.ensures
+    let how = c.args.self.now.how in
+    turned (says how.0 how.1) (drops how.0 how.1) 1536 c.args.name _ _ _ _ _ _ c.convert-outcome.result _ c.over-source.ensures.supply c.convert-outcome.ensures.ran.ran c.ended.ensures
 
 pub returns-clause-failures : goal.returns-clause-failures
 returns-clause-failures g c = failures c.args.name c.convert-outcome.result _ _ _ c.ended.ensures c.convert-outcome.ensures.write_faults
