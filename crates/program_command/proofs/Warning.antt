@@ -13,6 +13,7 @@ use Rattle.filters.specs.Endings.{Tells}
 use Rattle.preconv_converter.specs.Reading as preconv
 use Rattle.preconv_converter.specs.declared.target.Target.TheVariants.{Ascii}
 use Rattle.document_printing.specs.Tables.{has_tables}
+use Rattle.man_lint.specs.Complaints as man
 use Rattle.mdoc_command.specs.Complaints as mdoc
 use Rattle.tbl_command.proofs.Looked.{lines-told}
 use Rattle.tbl_command.specs.Looking.{AreToldOf, lines_of_page}
@@ -24,7 +25,7 @@ use Rattle.program_plan.specs.declared.macros.Macros.TheVariants as kinds
 use Rattle.document_reader.specs.Page.{IsShort}
 use Rattle.program_command.specs.Printing.{AreAllShort}
 use Rattle.program_command.specs.Running.{under}
-use Rattle.program_command.specs.Warnings.{AreAhead, AreTablesOf, Heard, MayBeCut, PROGRAM, TellsAt, TellsBytes, TellsEach, TellsOne, TellsRead, TellsText, TellsTexts, heard, is_looked_at, kind_of, lines_of, macro_count, name_at, of_macros, of_tables, page_of, tables_job, unlooked, warnings_of}
+use Rattle.program_command.specs.Warnings.{AreAhead, AreTablesOf, Heard, MayBeCut, PROGRAM, TellsAt, TellsBytes, TellsEach, TellsOne, TellsRead, TellsText, TellsTexts, heard, is_looked_at, kind_of, lines_of, macro_count, name_at, of_macros, of_man, of_tables, page_of, tables_job, unlooked, warnings_of}
 
 is_false : (b : Bool) → not b ≡ true → b ≡ false
 is_false true h = sym h
@@ -89,6 +90,19 @@ macros-none Manual name page old not = absurd (not refl)
 macros-none kinds.None name page old not = refl
 macros-none Named name page old not = refl
 
+-- what is wrong with the lines of a page of man(7)
+pub man-reported : {T E : Type 0} (r : Result T E) (kind : Macros) (name page : List ℕ) (a b : Option (List ℕ)) (f h : SinkFailures) → kind ≡ Manual
+    → IfOk r (λ _. Tells a b f h (man.lines_of PROGRAM name (man.faults_of page)))
+    → IfOk r (λ _. TellsEach (heard a f) (heard b h) (of_man kind name page))
+man-reported (Ok x) kind name page a b f h is reported =
+    subst (λ (k : Macros). TellsEach (heard a f) (heard b h) (of_man k name page)) (sym is) (TellsEach-one a b f h _ reported)
+man-reported (Err e) kind name page a b f h is reported = reported
+
+pub man-none : (kind : Macros) (name page : List ℕ) (old : Heard) → (kind ≡ Manual → ⊥) → TellsEach old old (of_man kind name page)
+man-none Manual name page old not = absurd (not refl)
+man-none kinds.None name page old not = refl
+man-none Named name page old not = refl
+
 -- what tbl tells
 abbrev tables_if : Bool → Job → List ℕ → List ℕ → List (List ℕ)
 tables_if true job name page = lines_of_page PROGRAM name job (preconv.converted Ascii page) ∷ []
@@ -128,15 +142,18 @@ tables-are : (job : Asked) (name page : List ℕ) (tables : Option Tables) → A
 tables-are job name page tables are =
     by_has (has_tables page) (tables_job job (kind_of job page)) name page tables are ∙ as_if (has_tables page) (tables_job job (kind_of job page)) name page
 
--- both
-pub page-told : (job : Asked) (name page : List ℕ) (kind : Macros) (tables : Option Tables) (old next new : Heard) → kind ≡ kind_of job page
-    → TellsEach old next (of_macros kind name page) → (AreAllShort page → AreTablesOf (has_tables page) (tables_job job kind) page tables)
+-- all three
+pub page-told : (job : Asked) (name page : List ℕ) (kind : Macros) (tables : Option Tables) (old mid next new : Heard) → kind ≡ kind_of job page
+    → TellsEach old mid (of_macros kind name page) → TellsEach mid next (of_man kind name page)
+    → (AreAllShort page → AreTablesOf (has_tables page) (tables_job job kind) page tables)
     → TellsEach next new (lines_of name tables) → AreAllShort page → TellsEach old new (warnings_of job name page)
-page-told job name page kind tables old next new is macros are told short =
+page-told job name page kind tables old mid next new is macros calls are told short =
     let of : AreTablesOf (has_tables page) (tables_job job (kind_of job page)) page tables =
     subst (λ (k : Macros). AreTablesOf (has_tables page) (tables_job job k) page tables) is (are short) in
-    TellsEach-append old next new (of_macros (kind_of job page) name page) (of_tables job name page)
-    (subst (λ (k : Macros). TellsEach old next (of_macros k name page)) is macros)
+    let first : TellsEach old mid (of_macros (kind_of job page) name page) = subst (λ (k : Macros). TellsEach old mid (of_macros k name page)) is macros in
+    let second : TellsEach mid next (of_man (kind_of job page) name page) = subst (λ (k : Macros). TellsEach mid next (of_man k name page)) is calls in
+    TellsEach-append old next new (of_macros (kind_of job page) name page ++ of_man (kind_of job page) name page) (of_tables job name page)
+    (TellsEach-append old mid next (of_macros (kind_of job page) name page) (of_man (kind_of job page) name page) first second)
     (subst (λ (ls : List (List ℕ)). TellsEach next new ls) (tables-are job name page tables of) told)
 
 -- ---- texts

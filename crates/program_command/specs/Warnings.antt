@@ -10,6 +10,7 @@ use Rattle.preconv_converter.specs.Reading as preconv
 use Rattle.preconv_converter.specs.declared.target.Target.TheVariants.{Ascii}
 use Rattle.document_printing.specs.Tables.{has_tables}
 use Rattle.document_stages.specs.Pulling.{Stays}
+use Rattle.man_lint.specs.Complaints as man
 use Rattle.mdoc_command.specs.Complaints as mdoc
 use Rattle.tbl_command.specs.Looking.{AreToldOf, lines_of_page, lines_of_tables}
 use Rattle.tbl_command.specs.declared.arguments.Job.{Job}
@@ -35,6 +36,10 @@ kind_of job page = macros_of (is_manual (take 65536 page)) job
 abbrev pub of_macros : Macros → List ℕ → List ℕ → List (List ℕ)
 of_macros kind name page = if is_of_manual kind then mdoc.lines_of PROGRAM name (mdoc.told_of page) ∷ [] else []
 
+-- what is wrong with the lines of a page of man(7), where it has the same macros
+abbrev pub of_man : Macros → List ℕ → List ℕ → List (List ℕ)
+of_man kind name page = if is_of_manual kind then man.lines_of PROGRAM name (man.faults_of page) ∷ [] else []
+
 -- how its tables are looked at: by the limits of the words, and in ASCII
 abbrev pub tables_job : Asked → Macros → Job
 tables_job job kind = record {
@@ -55,7 +60,7 @@ of_tables job name page =
 
 -- WHAT IS WRONG WITH A PAGE of this name, as it is told
 abbrev pub warnings_of : Asked → List ℕ → List ℕ → List (List ℕ)
-warnings_of job name page = of_macros (kind_of job page) name page ++ of_tables job name page
+warnings_of job name page = of_macros (kind_of job page) name page ++ of_man (kind_of job page) name page ++ of_tables job name page
 
 -- ---- how it is told
 

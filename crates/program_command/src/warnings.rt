@@ -11,7 +11,7 @@ ghost use Rattle.preconv_converter.specs.Reading.{converted};
 ghost use Rattle.preconv_converter.specs.declared.target.Target.TheVariants.{Ascii};
 ghost use Rattle.tbl_command.specs.Looking.{AreToldOf};
 ghost use Rattle.program_command.specs.Printing.{AreAllShort};
-ghost use Rattle.program_command.specs.Warnings.{AreAhead, AreTablesOf, TellsAt, TellsBytes, TellsEach, TellsRead, TellsText, TellsTexts, heard, is_looked_at, lines_of, of_macros, page_of, tables_job, unlooked, warnings_of};
+ghost use Rattle.program_command.specs.Warnings.{AreAhead, AreTablesOf, TellsAt, TellsBytes, TellsEach, TellsRead, TellsText, TellsTexts, heard, is_looked_at, lines_of, of_macros, of_man, page_of, tables_job, unlooked, warnings_of};
 
 use crate::ahead::{Ahead, Read, read_ahead};
 use crate::endings::Ending;
@@ -206,7 +206,7 @@ fn decoded(looks: Looks, bytes: &[u8]) -> Result<Vec<u8>, AllocError>
     Ok(page)
 }
 
-/// Tells what is wrong with a page of this name: by its macros, and by its tables.
+/// Tells what is wrong with a page of this name: by its macros, by the lines of a page of man(7), and by its tables.
 fn tell_page_of<E: Sink>(
     job: &Job<'_>,
     name: &str,
@@ -221,6 +221,7 @@ fn tell_page_of<E: Sink>(
     let kind = macros_of(job, is_manual(first_of(page)));
     let tables = tables_of(job, kind, page, alloc)?;
     tell_macros(kind, name, page, alloc, errors)?;
+    tell_man(kind, name, page, alloc, errors)?;
     tell_tables(name, &tables, errors);
     Ok(())
 }
@@ -238,6 +239,23 @@ fn tell_macros<E: Sink>(
 {
     match kind {
         Macros::Manual => tell_page(PROGRAM, name, page, alloc, errors),
+        _ => Ok(()),
+    }
+}
+
+/// Tells what is wrong with the lines of a page of man(7) that has these macros.
+fn tell_man<E: Sink>(
+    kind: Macros,
+    name: &str,
+    page: &[u8],
+    alloc: Global,
+    errors: &mut E,
+) -> Result<(), AllocError>
+    ensures { IfOk result (λ _. TellsEach (heard (E.held errors.old) (E.failures errors.old))
+        (heard (E.held errors.new) (E.failures errors.new)) (of_man kind name.now page.now)) }
+{
+    match kind {
+        Macros::Manual => man_lint::tell_page(PROGRAM, name, page, alloc, errors),
         _ => Ok(()),
     }
 }

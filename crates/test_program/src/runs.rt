@@ -202,7 +202,7 @@ here              today              A(1)\n",
 ];
 
 /// What is reported.
-static REPORTED: [Row; 22] = [
+static REPORTED: [Row; 24] = [
     // what is wrong in the texts, where words ask for it: of pages of mdoc, and of tables
     Row {
         words: &[b"nulbiko", b"-z", b"--warnings", b"b.1", b"-"],
@@ -217,6 +217,21 @@ static REPORTED: [Row; 22] = [
         output: b"",
         status: 0,
         line: b"nulbiko: -:3: more fields than columns\n",
+    },
+    // of the lines of pages of man(7), and that they have no title where words name these macros
+    Row {
+        words: &[b"nulbiko", b"-z", b"--warnings"],
+        input: b".SH A\n.TH A 1\n.XX\n.xx\n\\*(xy \\q\n.RE\n.UE\n.ME\n.EE\n.RS\n.UR x\n",
+        output: b"",
+        status: 0,
+        line: b"nulbiko: -:2: late title macro: TH\nnulbiko: -:3: unknown macro: XX\nnulbiko: -:4: unknown macro: xx\nnulbiko: -:5: unknown string: xy\nnulbiko: -:5: unknown escape: \\q\nnulbiko: -:6: end of block that is not open: RE\nnulbiko: -:7: end of block that is not open: UE\nnulbiko: -:8: end of block that is not open: ME\nnulbiko: -:9: end of block that is not open: EE\nnulbiko: -:11: missing end of block: UR\nnulbiko: -:10: missing end of block: RS\n",
+    },
+    Row {
+        words: &[b"nulbiko", b"-z", b"-man", b"--warnings"],
+        input: b".ds xy a\n.SH A\n\\*(xy\n",
+        output: b"",
+        status: 0,
+        line: b"nulbiko: -:2: missing title macro: TH\n",
     },
     // of each file by itself and once, of its macros before its tables, and of no macro file; then its pages go out
     Row {

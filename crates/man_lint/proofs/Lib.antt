@@ -1,0 +1,3 @@
+mod PageLines
+mod Printing
+mod Written

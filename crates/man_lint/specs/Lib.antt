@@ -1,0 +1,11 @@
+pub mod Blocks
+pub mod Calls
+pub mod Complaints
+pub mod Escapes
+pub mod Laws
+pub mod Lines
+pub mod Names
+pub mod OwnNames
+pub mod Reporting
+pub mod Shown
+pub mod Watching
