@@ -6,7 +6,7 @@ use Rattle.utf8_own_characters.specs.declared.counting.Count.{Count}
 use Rattle.utf8_own_characters.specs.Ranking.{ranked}
 use Rattle.utf8_own_characters.specs.Table.{Characters}
 use Rattle.utf8_own_page.specs.Looking.{counts_of}
-use Rattle.utf8_own_page.specs.Needing.{IsMadeOf, IsTableOf}
+use Rattle.utf8_own_page.specs.Needing.{IsMadeOf, IsTableOf, lacks}
 use Rattle.preconv_converter.specs.declared.target.Target.{Target}
 use Rattle.preconv_converter.specs.declared.target.Target.TheVariants.{Ascii}
 use Rattle.preconv_converter.specs.declared.target.Target.TheVariants as targets
@@ -25,7 +25,7 @@ use Rattle.document_printing.specs.declared.showing.PageTable.TheVariants.{Fixed
 use Rattle.document_printing.specs.declared.showing.Spelling.{Spelling}
 use Rattle.document_printing.specs.declared.showing.Spelling.TheVariants.{Utf8}
 use Rattle.nulbiko.specs.Document.{PrintsDocument, table_for}
-use Rattle.nulbiko.specs.Own.{HasOwn, IsCodedShort, IsOwn, IsShortIf, Lends, LookIsShort, OwnIsShort, OwnIsShortToo, PrintsBy, PrintsOwn, PrintsPage, ShowsOwn, asks_for_own, coded_setup, counts_for, lacks, stages_of, takes_own}
+use Rattle.nulbiko.specs.Own.{HasOwn, IsCodedShort, IsOwn, IsShortIf, Lends, LookIsShort, OwnIsShort, OwnIsShortToo, PrintsBy, PrintsOwn, PrintsPage, ShowsOwn, asks_for_own, coded_setup, counts_for, stages_of, takes_own}
 use Rattle.nulbiko.specs.declared.document.DocumentSetup.{DocumentSetup}
 use Rattle.nulbiko.specs.declared.told.Report.{Report}
 

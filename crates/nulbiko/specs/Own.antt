@@ -1,11 +1,10 @@
 -- A page is printed with a table of its own.
 use Rattle.std.specs.Prelude.{◌≡◌, ℕ, ◌<◌, List, [], length, Bool, true, false, not, ◌==◌, ◌&&◌, Option, None, Some, ⊤}
-use Rattle.utf8_characters.specs.declared.table.Table as fixed
 use Rattle.utf8_own_characters.specs.declared.counting.Count.{Count}
 use Rattle.utf8_own_characters.specs.Ranking.{ranked}
 use Rattle.utf8_own_characters.specs.Table.{Characters}
 use Rattle.utf8_own_page.specs.Looking.{counts_of}
-use Rattle.utf8_own_page.specs.Needing.{IsTableOf, front_of, has_all, may_need_own}
+use Rattle.utf8_own_page.specs.Needing.{IsTableOf, front_of, lacks, may_need_own}
 use Rattle.preconv_converter.specs.declared.target.Target.TheVariants.{Ascii, Utf8}
 use Rattle.tbl_stage.specs.Text.{Bounds}
 use Rattle.nr_options.specs.declared.options.Options.{Options}
@@ -37,10 +36,6 @@ asks_for_own setup text = (setup.options.table == 6) && (not (setup.options.form
 -- what the first MiB of a page prints, with what frames are drawn with where tables are set
 abbrev pub counts_for : DocumentSetup → List ℕ → List Count
 counts_for setup text = counts_of 4352 (sets_of setup text) (plain_of (stages_of setup) Utf8 (front_of text))
-
-abbrev pub lacks : Option fixed.Table → List Count → Bool
-lacks None xs = false
-lacks (Some table) xs = not (has_all table xs)
 
 -- and the fixed table that the page takes lacks some of it
 abbrev pub takes_own : DocumentSetup → List ℕ → Bool

@@ -29,7 +29,7 @@ use preconv_converter::Target;
 use std::alloc::{AllocError, Global};
 use utf8_characters::Table as Fixed;
 use utf8_own_characters::Count;
-use utf8_own_page::{Cells, counted, front_of, has_all, signs_of};
+use utf8_own_page::{Cells, counted, front_of, lacks, signs_of};
 
 /// Counts what the first of a page prints beyond ASCII, after what frames are drawn with.
 fn count_front(
@@ -57,16 +57,6 @@ fn count_page(alloc: Global, setup: &DocumentSetup, text: &[u8]) -> Result<Vec<C
     let stages = stages_of(setup);
     let frames = sets_tables(setup, text);
     count_front(alloc, stages, frames, front_of(text))
-}
-
-/// Whether the fixed table that a page takes lacks one of these.
-fn lacks(characters: Option<Fixed>, counts: &[Count]) -> bool
-    ensures { result ≡ specs.lacks characters counts.now }
-{
-    match characters {
-        Some(table) => !has_all(table, counts),
-        None => false,
-    }
 }
 
 /// The characters of a page's own table, where no fixed one has all that it prints.

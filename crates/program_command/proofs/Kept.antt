@@ -62,7 +62,8 @@ ShowsBy-kept : (needs : Bool) (plan : Plan) (first : List ℕ) (given : Given) (
     → ShowsBy needs plan first given page report a b → Keeps b c → ShowsBy needs plan first given page report a c
 ShowsBy-kept true plan first given page report a b c shows q = record {
   table = shows.table;
-  is_own = shows.is_own;
+  made = shows.made;
+  good = shows.good;
   shows = record { shows = Shows-kept _ _ _ report.moves report.outcome a b c shows.shows.shows q };
 }
 ShowsBy-kept false plan first given page report a b c shows q = record { shows = Shows-kept _ _ _ report.moves report.outcome a b c shows.shows q }

@@ -4,7 +4,6 @@ pub mod Coming
 pub mod Fullest
 pub mod Kept
 pub mod Leaving
-pub mod Looking
 pub mod Reading
 pub mod Shown
 pub mod Telling

@@ -1,20 +1,21 @@
 -- What a page shows, by how it is set.
-use Rattle.std.proofs.Common.{◌≡◌, ℕ, List, [], append-nil, Bool, true, false, ◌&&◌, not, Option, Some, Result, Ok, Err, IfOk, refl, sym, subst, ap, ◌∙◌}
+use Rattle.std.proofs.Common.{◌≡◌, ℕ, List, [], append-nil, Bool, true, false, ◌&&◌, Option, None, Some, Result, Ok, Err, IfOk, refl, sym, subst, ap, ◌∙◌}
 use Rattle.std.specs.Borrow.{Bor}
 use Rattle.nr_units.specs.Source.{Supply}
 use Rattle.nr_options.specs.Limits.{Bounds}
 use Rattle.tbl_setting.specs.Drawing.{signs_of}
 use Rattle.tbl_stage.specs.Text as tbl
-use Rattle.utf8_own_characters.specs.Table.{Characters}
-use Rattle.utf8_own_characters.specs.Ranking.{ranked}
+use Rattle.utf8_own_characters.specs.Table.{Characters, Good}
 use Rattle.utf8_own_characters.specs.declared.counting.Count.{Count}
+use Rattle.utf8_own_page.specs.Needing.{IsMadeOf, lacks}
+use Rattle.utf8_own_page.specs.Signs.{signs_for}
 use Rattle.document_reader.specs.Page.{IsShort, man_of, own_of, own_supply}
 use Rattle.document_printing.specs.Document.{setting_of, source_of}
 use Rattle.tbl_stage.specs.Memory.{limits_of}
 use Rattle.document_printing.specs.Showing.{Shows}
 use Rattle.document_printing.specs.declared.setup.Report.{Report}
 use Rattle.document_printing.specs.declared.showing.Showing.{Showing}
-use Rattle.program_command.specs.Own.{counts_of, has_all, may_need_own, needs_own, ranked_of, signs_for}
+use Rattle.program_command.specs.Own.{HasOwn, counts_of, may_need_own, needs_own}
 use Rattle.program_command.specs.Printing.{AreAllShort, AreShort, FixedShows, Given, OwnShows, Printed, ShowsBy, TableShows, Where, fixed_showing, given_by, own_showing}
 use Rattle.program_command.specs.declared.plan.Plan.{Plan}
 use Rattle.program_command.specs.declared.printing.Means.{Means}
@@ -65,32 +66,29 @@ OwnShows-of plan table means limits showing tables q report held new is drawn sh
 
 -- ---- with the one or the other
 
-and-false : (a : Bool) → (a && false) ≡ false
-and-false true = refl
-and-false false = refl
+pub needs-not : (plan : Plan) (first : List ℕ) (may : Bool) → may ≡ may_need_own plan first → may ≡ false → needs_own plan first ≡ false
+needs-not plan first may is none = ap (λ (b : Bool). b && lacks plan.characters (counts_of plan first)) (sym is ∙ none)
 
-pub Printed-unneeded : (plan : Plan) (first : List ℕ) (given : Given) (q : Supply) (report : Report) (held new : Option (List ℕ))
-    → may_need_own plan first ≡ false → FixedShows plan given q report held new → Printed plan first given q report held new
-Printed-unneeded plan first given q report held new needs shows =
-    let none : needs_own plan first ≡ false = ap (λ b. b && not (has_all plan.characters (counts_of plan first))) needs in
+pub needs-as : (plan : Plan) (first : List ℕ) (counts : List Count) (may lacking r : Bool) → may ≡ may_need_own plan first → may ≡ true
+    → lacking ≡ lacks plan.characters counts → lacking ≡ r → counts ≡ counts_of plan first → needs_own plan first ≡ r
+needs-as plan first counts may lacking r is all told same are =
+    ap (λ (b : Bool). b && lacks plan.characters (counts_of plan first)) (sym is ∙ all)
+    ∙ ap (λ (xs : List Count). lacks plan.characters xs) (sym are) ∙ sym told ∙ same
+
+pub Printed-fixed : (plan : Plan) (first : List ℕ) (given : Given) (q : Supply) (report : Report) (held new : Option (List ℕ)) (own : Option (List Count))
+    → own ≡ None → HasOwn plan first own → FixedShows plan given q report held new → Printed plan first given q report held new
+Printed-fixed plan first given q report held new own is has shows =
+    let none : needs_own plan first ≡ false = subst (λ (o : Option (List Count)). HasOwn plan first o) is has in
     subst (λ (b : Bool). ShowsBy b plan first given q report held new) (sym none) shows
 
-pub Printed-fixed : (plan : Plan) (first : List ℕ) (given : Given) (q : Supply) (report : Report) (held new : Option (List ℕ)) (counts : List Count)
-    → counts ≡ counts_of plan first → has_all plan.characters counts ≡ true → FixedShows plan given q report held new → Printed plan first given q report held new
-Printed-fixed plan first given q report held new counts are has shows =
-    let all : has_all plan.characters (counts_of plan first) ≡ true = subst (λ (xs : List Count). has_all plan.characters xs ≡ true) are has in
-    let none : needs_own plan first ≡ false = ap (λ b. may_need_own plan first && not b) all ∙ and-false (may_need_own plan first) in
-    subst (λ (b : Bool). ShowsBy b plan first given q report held new) (sym none) shows
-
-pub Printed-own : (plan : Plan) (first : List ℕ) (given : Given) (q : Supply) (report : Report) (held new : Option (List ℕ)) (counts : List Count)
-    → counts ≡ counts_of plan first → may_need_own plan first ≡ true → has_all plan.characters counts ≡ false
-    → TableShows plan (ranked counts) given q report held new → Printed plan first given q report held new
-Printed-own plan first given q report held new counts are needs has told =
-    let lacks : has_all plan.characters (counts_of plan first) ≡ false = subst (λ (xs : List Count). has_all plan.characters xs ≡ false) are has in
-    let shows : TableShows plan (ranked_of plan first) given q report held new = subst (λ (xs : List Count). TableShows plan (ranked xs) given q report held new) are told in
-    let own : needs_own plan first ≡ true =
-    ap (λ b. may_need_own plan first && not b) lacks ∙ ap (λ b. b && true) needs in
-    subst (λ (b : Bool). ShowsBy b plan first given q report held new) (sym own) shows
+pub Printed-own : (plan : Plan) (first : List ℕ) (given : Given) (q : Supply) (report : Report) (held new : Option (List ℕ)) (own : Option (List Count))
+    (counts : List Count) (table : Bor Characters) → own ≡ Some counts → HasOwn plan first own → IsMadeOf counts table.now → Good table.now
+    → OwnShows plan table given q report held new → Printed plan first given q report held new
+Printed-own plan first given q report held new own counts table is has made good shows =
+    let needs : HasOwn plan first (Some counts) = subst (λ (o : Option (List Count)). HasOwn plan first o) is has in
+    let all : TableShows plan counts given q report held new = record { table = table; made = made; good = good; shows = shows } in
+    subst (λ (b : Bool). ShowsBy b plan first given q report held new) (sym needs.0)
+    (subst (λ (xs : List Count). TableShows plan xs given q report held new) needs.1 all)
 
 -- ---- where it is known what a page is to give
 

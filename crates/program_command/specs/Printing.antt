@@ -8,8 +8,10 @@ use Rattle.preconv_converter.specs.Targets.{target_of}
 use Rattle.preconv_converter.specs.declared.target.Target.TheVariants.{Ascii, Utf8}
 use Rattle.tbl_setting.specs.Drawing.{signs_of}
 use Rattle.utf8_characters.specs.declared.table.Table.{Table}
-use Rattle.utf8_own_characters.specs.Table.{Characters}
+use Rattle.utf8_own_characters.specs.Table.{Characters, Good}
 use Rattle.utf8_own_characters.specs.declared.counting.Count.{Count}
+use Rattle.utf8_own_page.specs.Needing.{IsMadeOf}
+use Rattle.utf8_own_page.specs.Signs.{signs_for}
 use Rattle.document_reader.specs.Page.{IsShort, breaks_off, man_of, own_of, own_supply, plain_of}
 use Rattle.document_reader.specs.declared.page.Stages.{Stages}
 use Rattle.document_printing.specs.Document.{Setting, source_of}
@@ -21,7 +23,7 @@ use Rattle.document_printing.specs.declared.showing.Showing.{Showing}
 use Rattle.document_printing.specs.declared.showing.Spelling.{Spelling}
 use Rattle.document_printing.specs.declared.showing.Spelling.TheVariants as spellings
 use Rattle.document_printing.specs.declared.showing.PageTable.TheVariants.{Fixed, Own}
-use Rattle.program_command.specs.Own.{IsTableOf, needs_own, ranked_of, signs_for}
+use Rattle.program_command.specs.Own.{needs_own, ranked_of}
 use Rattle.program_command.specs.declared.plan.Plan.{Plan}
 use Rattle.program_command.specs.declared.printing.Means.{Means}
 
@@ -125,11 +127,12 @@ pub record OwnShows (plan : Plan) (table : Bor Characters) (given : Given) (q : 
       (source_of (own_setting plan table.now given) (own_supply plan.stages table.now q)) report.moves
       report.outcome held new
 
--- a table of these clusters
+-- The table has the first of these clusters, as many as have room, each a place of its own.
 pub record TableShows (plan : Plan) (counts : List Count) (given : Given) (q : Supply) (report : Report)
     (held new : Option (List ℕ)) : Type 0 where
   pub table : Bor Characters
-  pub is_own : IsTableOf counts table.now
+  pub made : IsMadeOf counts table.now
+  pub good : Good table.now
   pub shows : OwnShows plan table given q report held new
 
 -- ---- with the one or the other

@@ -7,12 +7,14 @@ ghost use Rattle.program_options.specs.Job.{asked_of};
 ghost use Rattle.program_plan.specs.Kinds.{is_manual};
 ghost use Rattle.program_plan.specs.Macros.{macros_of};
 ghost use Rattle.program_plan.specs.Texts.{macro_names};
+ghost use Rattle.program_command.specs.Own.{HasOwn};
 ghost use Rattle.program_command.specs.Plan.{AreOptions, IsSelected, plan_of};
+ghost use Rattle.program_command.specs.Printing.{AreShort};
 ghost use Rattle.program_command.specs.Program.{IsOfRun, Passes};
 ghost use Rattle.program_command.specs.Running.{AreMacros, FrontGives, IsReading, IsTold, Runs, files_of, first_of, is_for_others, text_of, under, with_named, MayLeaveOut};
 
 use crate::endings::{Ending, Place};
-use crate::own::print_by_plan;
+use crate::own::{own_cells, print_by_plan};
 use crate::plan::{LOOKED_AT, MORE_LOOKED_AT, Plan, limits_of, options_of, plan_of};
 use crate::printing::Means;
 use crate::surroundings::Surroundings;
@@ -25,7 +27,7 @@ use preconv_coding::{Coding, UnderCoding};
 use program_options::Job;
 use program_plan::{asks_for_others, is_manual, macros_of, text_before};
 use std::alloc::AllocError;
-use utf8_own_page::may_need_own;
+use utf8_own_page::{Cells, may_need_own};
 
 /// The bytes of the longest line that names a text, and one more: a path of Linux has 4,095 at most.
 const LONGEST_LINE: usize = 8_192;
@@ -253,6 +255,8 @@ struct Ready {
     /// What is read before it.
     before: Vec<u8>,
     plan: Plan,
+    /// The characters of its own table, if it has one.
+    own: Option<Cells>,
     options: Options,
     desk: Desk,
 }
@@ -268,6 +272,8 @@ fn make_ready<T: Source + Drop>(
     requires { IsSelected (asked_of job.now).pages select }
     ensures plan { IfOk result (λ made. IfSome made (λ ready. ready.plan
         ≡ plan_of (asked_of job.now) around.now (macros_of (is_manual front.now) (asked_of job.now)) front.now)) }
+    ensures own { IfOk result (λ made. IfSome made (λ ready. AreShort ready.plan.stages front.now →
+        HasOwn ready.plan front.now ready.own)) }
     ensures macros { IfOk result (λ made. IfSome made (λ ready. AreMacros (asked_of job.now)
         (macros_of (is_manual front.now) (asked_of job.now)) (files_supply (map T.supply macros.old)) ready.before.items)) }
     ensures options { IfOk result (λ made. IfSome made (λ ready. AreOptions (asked_of job.now) ready.plan ready.options)) }
@@ -279,11 +285,13 @@ fn make_ready<T: Source + Drop>(
         return Ok(None);
     }
     let plan = plan_of(job, kind, around, front)?;
+    let own = own_cells(&plan, front, around.alloc)?;
     let desk = Desk::new(&mut CountedAlloc::new(around.alloc), job.limits)?;
     let options = options_of(job, &plan, select);
     Ok(Some(Ready {
         before,
         plan,
+        own,
         options,
         desk,
     }))
@@ -316,6 +324,7 @@ fn run_front<'a, 'p, T: Source + Drop, R: Source + Drop, W: Sink + Drop>(
     let Ready {
         before,
         plan,
+        own,
         options,
         mut desk,
     } = ready;
@@ -325,7 +334,7 @@ fn run_front<'a, 'p, T: Source + Drop, R: Source + Drop, W: Sink + Drop>(
         limits: limits_of(job),
         alloc: around.alloc,
     };
-    let (output, printed) = print_by_plan(front, first, &plan, means, &mut desk, output);
+    let (output, printed) = print_by_plan(front, &own, &plan, means, &mut desk, output);
     match printed {
         Ok(report) => (output, Ok(ending_of(&report, name))),
         Err(error) => (output, Err(error)),

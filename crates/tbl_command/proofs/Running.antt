@@ -16,7 +16,7 @@ use Rattle.filters_own.specs.Looking.{AsksForOwn, ComesTo}
 use Rattle.filters_own.specs.Names.{file_at}
 use Rattle.tbl_command.specs.Arguments.{IsAnswer}
 use Rattle.tbl_command.specs.Converting.{AsksBy, AsksFor, bounds_of, own, tbl}
-use Rattle.tbl_command.specs.Signs.{signs_for}
+use Rattle.utf8_own_page.specs.Signs.{signs_for}
 use Rattle.tbl_command.specs.declared.arguments.Job.{Job}
 
 -- texts were set with the frames of a page's own table

@@ -7,6 +7,7 @@ use Rattle.tbl_setting.specs.Drawing.{signs_of}
 use Rattle.tbl_setting.specs.Bounds.{Bounds}
 use Rattle.tbl_setting.specs.Running.{set_page, set_so_far}
 use Rattle.utf8_own_characters.specs.Table.{Characters}
+use Rattle.utf8_own_page.specs.Signs.{signs_for}
 use Rattle.filters.specs.Program as programs
 use Rattle.filters.specs.Turning.{Filter}
 use Rattle.filters.specs.declared.endings.Ending.{Ending}
@@ -16,7 +17,6 @@ use Rattle.filters_own.specs.declared.names.Named.TheVariants.{Fixed, Own}
 use Rattle.filters_own.specs.Looking.{AsksForOwn}
 use Rattle.filters_own.specs.Names.{file_at}
 use Rattle.tbl_command.specs.Arguments.{IsAnswer}
-use Rattle.tbl_command.specs.Signs.{signs_for}
 use Rattle.tbl_command.specs.declared.arguments.BadWord.{BadWord}
 use Rattle.tbl_command.specs.declared.arguments.Job.{Job}
 use Rattle.tbl_command.specs.declared.arguments.Wrong.{Wrong}

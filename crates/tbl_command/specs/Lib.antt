@@ -2,4 +2,3 @@ pub mod Arguments
 pub mod Complaints
 pub mod Converting
 pub mod Looking
-pub mod Signs

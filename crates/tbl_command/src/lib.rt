@@ -1,8 +1,8 @@
 //! The program tbl but for its `main`: its words, the rooms that it takes, its files in order, and the lines that tell
 //! how it ended.
 //!
-//! It stands on filters, filters_own, tbl_setting, utf8_own_page and what these stand on. To read: `arguments`, `complaints`, `signs`,
-//! `rooms`, `looking`, `program`.
+//! It stands on filters, filters_own, tbl_setting, utf8_own_page and what these stand on. To read: `arguments`, `complaints`, `rooms`,
+//! `looking`, `program`.
 #![tactic(auto)]
 
 mod arguments;
@@ -10,7 +10,6 @@ mod complaints;
 mod looking;
 mod program;
 mod rooms;
-mod signs;
 
 pub use arguments::Job;
 pub use complaints::tell_complaints;

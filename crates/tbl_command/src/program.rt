@@ -9,12 +9,12 @@ ghost use Rattle.tbl_command.specs.Converting.{bounds_of, own, tbl, what_of, wor
 
 use super::arguments::{Job, Wrong, read_words};
 use super::rooms::Rooms;
-use super::signs::signs_for;
 use filters::{Disk, Ending, Filter, Paths, turn_names};
 use filters_own::{Named, file_at, look_at};
 use nr_units::sink::Sink;
 use std::io::Read;
 use utf8_characters::Table;
+use utf8_own_page::signs_of;
 
 /// The program.
 ///
@@ -100,7 +100,7 @@ fn turn_own<'a, P: Paths, I: Read + Copy + Drop, W: Sink, E: Sink>(
         Ok(cells) => cells,
         Err(ending) => return (ending, output),
     };
-    let signs = signs_for(&cells.table());
+    let signs = signs_of(&cells.table());
     let Ok(mut rooms) = Rooms::drawn_with(job, signs, disk.alloc) else {
         return (Ending::OutOfMemory, output);
     };

@@ -1,6 +1,6 @@
 -- Whether a page needs a table of its own, and which that is.
 use Prim.Native.Char.{code}
-use Rattle.std.specs.Prelude.{◌≡◌, ℕ, List, [], ◌∷◌, length, take, Bool, true, false, ◌==◌, ◌&&◌, ◌||◌, nat_le, if◌then◌else◌, is_some}
+use Rattle.std.specs.Prelude.{◌≡◌, ℕ, List, [], ◌∷◌, length, take, Bool, true, false, ◌==◌, ◌&&◌, ◌||◌, not, nat_le, if◌then◌else◌, is_some, Option, None, Some}
 use Rattle.utf8_characters.specs.declared.table.Table as fixed
 use Rattle.utf8_characters.specs.declared.table.Table.TheVariants.{English}
 use Rattle.utf8_characters.specs.Tables.{byte_of}
@@ -49,6 +49,11 @@ has table c = is_same c (single c.letter) && is_some (byte_of table c.letter)
 abbrev pub has_all : fixed.Table → List Count → Bool
 has_all table [] = true
 has_all table (x ∷ xs) = has table x.cluster && has_all table xs
+
+-- the fixed table that a page takes, if it takes one, lacks one of these
+abbrev pub lacks : Option fixed.Table → List Count → Bool
+lacks None xs = false
+lacks (Some table) xs = not (has_all table xs)
 
 -- the first ones that have room, in as few pairs as can be
 pub record IsMadeOf (xs : List Count) (t : Characters) : Type 0 where

@@ -45,6 +45,7 @@ fn begins_number(name: &[u8]) -> bool
 }
 
 /// Whether these bytes, after a backslash, name a character by its number, or a letter that the table of a page of ASCII lacks.
+#[inline(never)]
 fn names_beyond(bytes: &[u8]) -> bool
     ensures { result ≡ specs.names_beyond bytes.now }
 {
@@ -104,4 +105,14 @@ pub fn has_all(table: Fixed, counts: &[Count]) -> bool
         }
     }
     true
+}
+
+/// Whether the fixed table that a page takes, if it takes one, lacks one of these.
+pub fn lacks(table: Option<Fixed>, counts: &[Count]) -> bool
+    ensures { result ≡ specs.lacks table counts.now }
+{
+    match table {
+        Some(table) => !has_all(table, counts),
+        None => false,
+    }
 }

@@ -13,9 +13,11 @@ returns-in-Ok-printed-clause-prints g c =
     let ready = c.in-Some.ready in
     let first = c.first-first.result.now in
     let files = files_supply (map g.T.Source.supply c.args.macros.now) in
+    let own = rw c.in-Some.is at c.in-Ok.ensures.own in
+    let prints = c.print_by_plan-output.ensures.prints first c.first-first.ensures own in
     FrontGives-of job c.args.around.now files _ first ready.plan c.deref.result.now ready.options c.limits_of.result ready.desk c.in-Ok-printed.report c.ending_of.result
     (g.W.Sink.held c.args.output) (g.W.Sink.held c.print_by_plan-output.result.0) c.first-first.ensures (rw c.in-Some.is at c.in-Ok.ensures.plan)
     (subst (λ (m : List ℕ). AreMacros job (macros_of (is_manual first) job) files m) (sym c.deref.ensures.value) (rw c.in-Some.is at c.in-Ok.ensures.macros))
     (rw c.in-Some.is at c.in-Ok.ensures.options) c.limits_of.ensures (rw c.in-Some.is at c.in-Ok.ensures.limits)
-    (rw c.in-Ok-printed.is at c.print_by_plan-output.ensures.prints)
+    (rw c.in-Ok-printed.is at prints)
     (subst (λ (n : List ℕ). IsTold n c.in-Ok-printed.report c.ending_of.result) c.first_name-name.ensures c.ending_of.ensures.told)

@@ -26,5 +26,5 @@ returns-clause-comes g c =
     (asked looked.paths) (asked c.turn_names.new.disk.paths) (held c.args.output) (held last) (writes c.args.output) (writes last) (g.W.Sink.passed_on last)
     c.args.file.now _ c.table.result (texts c.args.names.now) c.turn_names.result.0 (ap remaining c.in-Ok.ensures.same) c.in-Ok.ensures.stays
     c.in-Ok.ensures.reads c.table.ensures.made
-    (own-set _ _ _ _ _ _ _ _ c.in-Ok-drawn_with.rooms.held c.signs_for-signs.result c.args.job c.table.result (texts c.args.names.now) c.turn_names.result.0
-    c.in-Ok-drawn_with.ensures c.signs_for-signs.ensures c.turn_names.ensures.turns)
+    (own-set _ _ _ _ _ _ _ _ c.in-Ok-drawn_with.rooms.held c.signs_of-signs.result c.args.job c.table.result (texts c.args.names.now) c.turn_names.result.0
+    c.in-Ok-drawn_with.ensures c.signs_of-signs.ensures c.turn_names.ensures.turns)
