@@ -19,7 +19,7 @@ use Rattle.program_command.specs.Warnings.{Heard}
 use Rattle.program_command.specs.declared.surroundings.Surroundings.{Surroundings}
 use Rattle.program_command.proofs.Kept.{Keeps-refl}
 use Rattle.program_command.specs.declared.endings.Ending.{Ending}
-use Rattle.program_command.specs.declared.endings.Ending.TheVariants.{BadWord, CannotOpen, Done, Limit, NoMacros, NeedsOthers, LeftOut, NoFolder, NoRoom, OutOfMemory, ReadFault, TooLong, WriteFault}
+use Rattle.program_command.specs.declared.endings.Ending.TheVariants.{BadWord, CannotOpen, Done, Limit, NoMacros, NeedsOthers, LeftOut, NoFolder, NoRoom, OutOfMemory, ReadFault, TooLong, Unshown, WriteFault}
 
 -- nothing was asked for
 pub Asks-same : {A : Type 0} (xs : Option (List A)) → Asks xs xs []
@@ -45,6 +45,7 @@ Opens-none may_come asked readings (BadWord usage) unopened = inl (Asks-same ask
 Opens-none may_come asked readings (NoMacros name) unopened = inl (Asks-same asked)
 Opens-none may_come asked readings (NoFolder path) unopened = inl (Asks-same asked)
 Opens-none may_come asked readings Done unopened = absurd unopened
+Opens-none may_come asked readings (Unshown name names) unopened = absurd unopened
 Opens-none may_come asked readings (Limit place which) unopened = absurd unopened
 Opens-none may_come asked readings (NoRoom place) unopened = absurd unopened
 Opens-none may_come asked readings TooLong unopened = absurd unopened
@@ -72,6 +73,7 @@ IsNotRun-unopened (BadWord usage) unopened = tt
 IsNotRun-unopened (NoMacros name) unopened = tt
 IsNotRun-unopened (NoFolder path) unopened = tt
 IsNotRun-unopened Done unopened = absurd unopened
+IsNotRun-unopened (Unshown name names) unopened = absurd unopened
 IsNotRun-unopened (Limit place which) unopened = absurd unopened
 IsNotRun-unopened (NoRoom place) unopened = absurd unopened
 IsNotRun-unopened TooLong unopened = absurd unopened

@@ -69,7 +69,7 @@ ShowsBy-kept true plan first given page report a b c shows q = record {
 ShowsBy-kept false plan first given page report a b c shows q = record { shows = Shows-kept _ _ _ report.moves report.outcome a b c shows.shows q }
 
 IsDocument-kept : (job : Asked) (around : Surroundings) (files : Option Supply) (page : Supply) (ending told : Ending) (a b c : Option (List ℕ))
-    → ((report : Report) → (name : List ℕ) → IsTold name report ending → IsTold name report told)
+    → ((report : Report) (name unshown : List ℕ) → IsTold name unshown report ending → IsTold name unshown report told)
     → IsDocument job around files page ending a b → Keeps b c → IsDocument job around files page told a c
 IsDocument-kept job around files page ending told a b c tells document q = record {
   first = document.first;
@@ -83,7 +83,7 @@ IsDocument-kept job around files page ending told a b c tells document q = recor
   options_are = document.options_are;
   report = document.report;
   printed = ShowsBy-kept (needs_own document.plan document.first) document.plan document.first _ page document.report a b c document.printed q;
-  told = tells document.report _ document.told;
+  told = tells document.report _ _ document.told;
 }
 
 -- ---- the output is flushed
@@ -94,7 +94,7 @@ EndsBefore-kept ending a b c ends q = record { before = ends.before; kept = Keep
 EndsBy-kept : (others : Bool) (job : Asked) (around : Surroundings) (files : Option Supply) (page : Supply) (ending : Ending) (a b c : Option (List ℕ))
     → EndsBy others job around files page ending a b → Keeps b c → EndsBy others job around files page ending a c
 EndsBy-kept true job around files page ending a b c ends q = record { told = ends.told; kept = Keeps-trans a b c ends.kept q }
-EndsBy-kept false job around files page ending a b c ends q = IsDocument-kept job around files page ending ending a b c (λ report name told. told) ends q
+EndsBy-kept false job around files page ending a b c ends q = IsDocument-kept job around files page ending ending a b c (λ report name unshown told. told) ends q
 
 ends-kept : (job : Asked) (around : Surroundings) (files : Option Supply) (first : List ℕ) (page : Supply) (ending : Ending) (a b c : Option (List ℕ))
     → (EndsBefore ending a b ⊎ EndsBy (is_for_others job first) job around files page ending a b) → Keeps b c
@@ -120,7 +120,7 @@ EndsBy-failed : (others : Bool) (job : Asked) (around : Surroundings) (files : O
     → EndsBy others job around files page ending a b → Keeps b c → EndsBefore endings.WriteFault a c ⊎ EndsBy others job around files page endings.WriteFault a c
 EndsBy-failed true job around files page ending a b c ends q = inl (record { before = tt; kept = Keeps-trans a b c ends.kept q })
 EndsBy-failed false job around files page ending a b c ends q =
-    inr (IsDocument-kept job around files page ending endings.WriteFault a b c (λ report name told. tt) ends q)
+    inr (IsDocument-kept job around files page ending endings.WriteFault a b c (λ report name unshown told. tt) ends q)
 
 ends-failed : (job : Asked) (around : Surroundings) (files : Option Supply) (first : List ℕ) (page : Supply) (ending : Ending) (a b c : Option (List ℕ))
     → (EndsBefore ending a b ⊎ EndsBy (is_for_others job first) job around files page ending a b) → Keeps b c

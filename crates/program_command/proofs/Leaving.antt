@@ -5,21 +5,23 @@ use Rattle.document_printing.specs.declared.setup.Outcome.TheVariants as outcome
 use Rattle.document_printing.specs.declared.setup.Report.{Report}
 use Rattle.program_options.specs.Job.{Asked}
 use Rattle.program_command.specs.Program.{IsOfRun}
-use Rattle.program_command.specs.Running.{EndsBefore, EndsBy, IsBefore, IsDocument, IsLeftOut, IsTold, MayLeaveOut, Runs, first_of, is_for_others}
+use Rattle.program_command.specs.Running.{EndsBefore, EndsBy, IsBefore, IsDocument, IsLeftOut, IsTold, IsWhole, MayLeaveOut, Runs, first_of, is_for_others}
 use Rattle.program_command.specs.declared.endings.Ending.{Ending}
-use Rattle.program_command.specs.declared.endings.Ending.TheVariants.{Done, LeftOut, NeedsOthers}
+use Rattle.program_command.specs.declared.endings.Ending.TheVariants.{Done, LeftOut, Unshown}
 use Rattle.program_command.specs.declared.surroundings.Surroundings.{Surroundings}
 
-told-left : (name : List ℕ) (report : Report) (after : Ending) → IsLeftOut name after → report.outcome ≡ outcomes.Done → IsTold name report after
-told-left name report (LeftOut place why) left is = (is, left)
-told-left name report other left is = absurd left
+told-left : (name unshown : List ℕ) (report : Report) (after : Ending) → IsLeftOut name after → report.outcome ≡ outcomes.Done → IsTold name unshown report after
+told-left name unshown report (LeftOut place why) left is = (is, left)
+told-left name unshown report other left is = absurd left
 
-told-done : (name : List ℕ) (report : Report) (before : Ending) → before ≡ Done → IsTold name report before → report.outcome ≡ outcomes.Done
-told-done name report before done told = subst (λ (e : Ending). IsTold name report e) done told
+told-whole : (name unshown : List ℕ) (report : Report) (before : Ending) → IsWhole before → IsTold name unshown report before → report.outcome ≡ outcomes.Done
+told-whole name unshown report Done whole told = told.0
+told-whole name unshown report (Unshown first names) whole told = told.0
+told-whole name unshown report other whole told = absurd whole
 
 document-left : (job : Asked) (around : Surroundings) (macros : Option Supply) (q : Supply) (before after : Ending) (a b : Option (List ℕ))
-    → before ≡ Done → IsLeftOut (first_of job.files) after → IsDocument job around macros q before a b → IsDocument job around macros q after a b
-document-left job around macros q before after a b done left d = record {
+    → IsWhole before → IsLeftOut (first_of job.files) after → IsDocument job around macros q before a b → IsDocument job around macros q after a b
+document-left job around macros q before after a b whole left d = record {
   first = d.first;
   rest = d.rest;
   looked_at = d.looked_at;
@@ -31,19 +33,24 @@ document-left job around macros q before after a b done left d = record {
   options_are = d.options_are;
   report = d.report;
   printed = d.printed;
-  told = told-left (first_of job.files) d.report after left (told-done (first_of job.files) d.report before done d.told);
+  told = told-left (first_of job.files) _ d.report after left (told-whole (first_of job.files) _ d.report before whole d.told);
 }
 
 ends-left : (others : Bool) (job : Asked) (around : Surroundings) (macros : Option Supply) (q : Supply) (before after : Ending) (a b : Option (List ℕ))
-    → before ≡ Done → IsLeftOut (first_of job.files) after → EndsBy others job around macros q before a b → EndsBy others job around macros q after a b
-ends-left true job around macros q before after a b done left ends = absurd (let no : Done ≡ NeedsOthers = subst (λ (e : Ending). e ≡ NeedsOthers) done ends.told in cc)
-ends-left false job around macros q before after a b done left ends = document-left job around macros q before after a b done left ends
+    → IsWhole before → IsLeftOut (first_of job.files) after → EndsBy others job around macros q before a b → EndsBy others job around macros q after a b
+ends-left true job around macros q before after a b whole left ends = absurd (subst IsWhole ends.told whole)
+ends-left false job around macros q before after a b whole left ends = document-left job around macros q before after a b whole left ends
+
+not-both : (before : Ending) → IsWhole before → IsBefore before → ⊥
+not-both Done whole unread = unread
+not-both (Unshown first names) whole unread = unread
+not-both other whole unread = absurd whole
 
 either-left : (others : Bool) (job : Asked) (around : Surroundings) (macros : Option Supply) (q : Supply) (before after : Ending) (a b : Option (List ℕ))
-    → before ≡ Done → IsLeftOut (first_of job.files) after → (EndsBefore before a b ⊎ EndsBy others job around macros q before a b)
+    → IsWhole before → IsLeftOut (first_of job.files) after → (EndsBefore before a b ⊎ EndsBy others job around macros q before a b)
     → EndsBefore after a b ⊎ EndsBy others job around macros q after a b
-either-left others job around macros q before after a b done left (inl unread) = absurd (subst IsBefore done unread.before)
-either-left others job around macros q before after a b done left (inr ends) = inr (ends-left others job around macros q before after a b done left ends)
+either-left others job around macros q before after a b whole left (inl unread) = absurd (not-both before whole unread.before)
+either-left others job around macros q before after a b whole left (inr ends) = inr (ends-left others job around macros q before after a b whole left ends)
 
 run-left : (name : List ℕ) (after : Ending) → IsLeftOut name after → IsOfRun after
 run-left name (LeftOut place why) left = tt
@@ -51,18 +58,18 @@ run-left name other left = absurd left
 
 pub IsOfRun-left : (name : List ℕ) (before after : Ending) → MayLeaveOut name before after → IsOfRun before → IsOfRun after
 IsOfRun-left name before after (inl same) run = subst IsOfRun (sym same) run
-IsOfRun-left name before after (inr (done, left)) run = run-left name after left
+IsOfRun-left name before after (inr (whole, left)) run = run-left name after left
 
 pub Runs-left-out : (job : Asked) (around : Surroundings) (macros known : Option Supply) (before after : Ending) (a b : Option (List ℕ))
     → MayLeaveOut (first_of job.files) before after → Runs job around macros known before a b → Runs job around macros known after a b
 Runs-left-out job around macros known before after a b (inl same) runs =
     subst (λ (e : Ending). Runs job around macros known e a b) (sym same) runs
-Runs-left-out job around macros known before after a b (inr (done, left)) runs = record {
+Runs-left-out job around macros known before after a b (inr (whole, left)) runs = record {
   checks = runs.checks;
   prints = λ asks q is short. let given = runs.prints asks q is short in record {
     first = given.first;
     rest = given.rest;
     looked_at = given.looked_at;
-    ends = either-left (is_for_others job given.first) job around macros q before after a b done left given.ends;
+    ends = either-left (is_for_others job given.first) job around macros q before after a b whole left given.ends;
   };
 }

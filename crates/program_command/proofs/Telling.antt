@@ -6,10 +6,17 @@ use Rattle.nr_command.specs.Opening.{name_of}
 use Rattle.filters.specs.Endings.{Tells}
 use Rattle.nr_units.specs.Failures.{SinkFailures}
 use Rattle.program_command.specs.declared.endings.Ending.{Ending}
-use Rattle.program_command.specs.Endings.{line_of, placed, told}
+use Rattle.document_printing.specs.declared.setup.Outcome.TheVariants as outcomes
+use Rattle.document_printing.specs.declared.setup.Report.{Report}
+use Rattle.program_command.specs.declared.endings.Ending.TheVariants.{Done, Unshown}
+use Rattle.program_command.specs.Running.{IsTold, IsWholeBut}
+use Rattle.program_command.specs.Endings.{line_of, placed, told, unshown_line}
 
 pub told_is : (w v w' v' : List ℕ) → w ≡ w' → v ≡ v' → told w v ≡ told w' v'
 told_is w v w' v' a b = ap (λ x. told x v) a ∙ ap (λ x. told w' x) b
+
+pub unshown_is : (n n' names : List ℕ) → n ≡ n' → unshown_line n names ≡ unshown_line n' names
+unshown_is n n' names same = ap (λ x. unshown_line x names) same
 
 pub placed_is : (n l w e n' l' w' e' : List ℕ) → n ≡ n' → l ≡ l' → w ≡ w' → e ≡ e' → placed n l w e ≡ placed n' l' w' e'
 placed_is n l w e n' l' w' e' a b c d =
@@ -29,3 +36,10 @@ path_is f n f' n' a b =
     ap (λ x. codes "nulbiko: cannot open " ++ (x ++ (codes "/tmac." ++ (n ++ codes "\n")))) a
     ∙ ap (λ x. codes "nulbiko: cannot open " ++ (f' ++ (codes "/tmac." ++ (x ++ codes "\n")))) b
     ∙ ap (λ x. codes "nulbiko: cannot open " ++ x) (sym (append_assoc (f' ++ codes "/tmac.") n' (codes "\n") ∙ append_assoc f' (codes "/tmac.") (n' ++ codes "\n")))
+
+-- all was printed but some characters
+pub told-printed : (name unshown : List ℕ) (report : Report) (ending : Ending) → report.outcome ≡ outcomes.Done → IsWholeBut name unshown ending
+    → IsTold name unshown report ending
+told-printed name unshown report Done done whole = (done, whole)
+told-printed name unshown report (Unshown first names) done whole = (done, whole)
+told-printed name unshown report other done whole = absurd whole

@@ -20,8 +20,9 @@ use Rattle.program_options.specs.declared.plain.Faces.TheVariants as faces
 use Rattle.program_plan.specs.Kinds.{is_manual}
 use Rattle.program_plan.specs.Macros.{macros_of}
 use Rattle.program_plan.specs.Texts.{macro_names}
+use Rattle.program_command.specs.Own.{unshown_of}
 use Rattle.program_command.specs.Plan.{AreOptions, has_strikes, page_limits_of, plan_of}
-use Rattle.program_command.specs.Printing.{Printed, Where}
+use Rattle.program_command.specs.Printing.{AreShort, Printed, Where}
 use Rattle.program_command.specs.Running.{AreMacros, EndsBefore, EndsBy, FrontGives, IsDocument, IsTold, Runs, files_of, first_of, is_for_others, text_of, under, with_named}
 use Rattle.document_sources.specs.Joining.{Texts}
 use Rattle.program_command.specs.declared.endings.Ending.{Ending}
@@ -147,7 +148,7 @@ pub FrontGives-of : (job : Asked) (around : Surroundings) (files front : Option 
     → plan ≡ plan_of job around (macros_of (is_manual first) job) first → AreMacros job (macros_of (is_manual first) job) files macros
     → AreOptions job plan options → page_limits ≡ page_limits_of job → limits ≡ job.limits
     → Where plan front (λ q. Printed plan first (record { macros = macros; options = options; page_limits = page_limits; limits = limits }) q report a b)
-    → IsTold (first_of job.files) report ending → FrontGives job around files front ending a b
+    → (AreShort plan.stages first → IsTold (first_of job.files) (unshown_of plan first) report ending) → FrontGives job around files front ending a b
 FrontGives-of job around files front first plan macros options page_limits limits report ending a b begun planned read given tables bounds prints told = λ asks q known unbroken short.
     let behind = begins front q first begun known in
     let checks : plan.checks ≡ false = ap (λ (p : Plan). p.checks) planned ∙ asks.prints in
@@ -167,7 +168,7 @@ FrontGives-of job around files front first plan macros options page_limits limit
       options_are = given;
       report = report;
       printed = subst (λ (l : Bounds). Printed plan first (record { macros = macros; options = options; page_limits = page_limits_of job; limits = l }) q report a b) bounds tabled;
-      told = told;
+      told = told (short plan.stages first behind.0 behind.1);
     })
 
 pub Runs-front : {E : Type 0} → (job : Asked) (around : Surroundings) (macros : Option Supply) (named : Option Coding) (files known front : Option Supply)

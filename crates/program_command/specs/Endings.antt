@@ -7,7 +7,7 @@ use Rattle.nr_command_options.specs.Inputs.{reading_of}
 use Rattle.nr_command.specs.Opening.{name_of}
 use Rattle.program_options.specs.Usage.{usage_text}
 use Rattle.program_command.specs.declared.endings.Ending.{Ending}
-use Rattle.program_command.specs.declared.endings.Ending.TheVariants.{Done, Limit, NoRoom, TooLong, BadWord, CannotOpen, NoMacros, ReadFault, WriteFault, OutOfMemory, NeedsOthers, LeftOut, NoFolder}
+use Rattle.program_command.specs.declared.endings.Ending.TheVariants.{Done, Unshown, Limit, NoRoom, TooLong, BadWord, CannotOpen, NoMacros, ReadFault, WriteFault, OutOfMemory, NeedsOthers, LeftOut, NoFolder}
 use Rattle.document_sources.specs.declared.folder.Why.{Why}
 use Rattle.document_sources.specs.declared.folder.Why.TheVariants.{Nothing, Outside, TooMany, Unreadable}
 use Rattle.document_sources.specs.declared.folder.Why.TheVariants as whys
@@ -15,6 +15,7 @@ use Rattle.document_sources.specs.declared.folder.Why.TheVariants as whys
 -- the status of the program
 abbrev pub status_of : Ending → ℕ
 status_of Done = 0
+status_of (Unshown name names) = 0
 status_of (Limit place which) = 1
 status_of (NoRoom place) = 1
 status_of TooLong = 1
@@ -57,9 +58,14 @@ placed name line what end =
 abbrev pub told_at : List ℕ → ℕ → List ℕ → List ℕ → List ℕ
 told_at name line what end = placed name (decimal line) what end
 
+-- a line about texts of which the first has this name, and characters of these names are not shown
+abbrev pub unshown_line : List ℕ → List ℕ → List ℕ
+unshown_line name names = concat (codes "nulbiko: " ∷ name ∷ codes ": characters not shown:" ∷ names ∷ codes "\n" ∷ [])
+
 -- the line that reports how the program ended: nothing where all went out, or where other programs are needed
 abbrev pub line_of : Ending → List ℕ
 line_of Done = []
+line_of (Unshown name names) = unshown_line name.now names.items
 line_of (Limit place which) = told_at place.name.now place.line (limit_text which) (codes " limit passed")
 line_of (NoRoom place) = told_at place.name.now place.line (codes "no room for a table") []
 line_of TooLong = told (codes "input too long") []

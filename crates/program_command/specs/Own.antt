@@ -1,8 +1,9 @@
--- Whether a page has a table of characters of its own, and which.
-use Rattle.std.specs.Prelude.{◌≡◌, ℕ, List, Bool, true, false, not, ◌&&◌, Option, None, Some}
+-- Whether a page has a table of characters of its own, which, and what that lacks.
+use Rattle.std.specs.Prelude.{◌≡◌, ℕ, List, Bool, true, false, not, ◌&&◌, if◌then◌else◌, [], Option, None, Some}
 use Rattle.preconv_converter.specs.declared.target.Target.TheVariants.{Utf8}
 use Rattle.utf8_own_characters.specs.declared.counting.Count.{Count}
 use Rattle.utf8_own_characters.specs.Ranking.{ranked}
+use Rattle.utf8_own_page.specs.Lacking.{left_of, names_of}
 use Rattle.utf8_own_page.specs.Looking as looking
 use Rattle.utf8_own_page.specs.Needing as needing
 use Rattle.utf8_own_page.specs.Needing.{lacks}
@@ -29,3 +30,14 @@ ranked_of plan first = ranked (counts_of plan first)
 abbrev pub HasOwn : Plan → List ℕ → Option (List Count) → Type 0
 HasOwn plan first None = needs_own plan first ≡ false
 HasOwn plan first (Some counts) = (needs_own plan first ≡ true) × (counts ≡ ranked_of plan first)
+
+-- ---- its characters that are not shown
+
+-- those that a table of these lacks, as they are told
+abbrev pub names_in : Option (List Count) → List ℕ
+names_in None = []
+names_in (Some counts) = names_of (left_of counts)
+
+-- what is told of a page: nothing where all are shown
+abbrev pub unshown_of : Plan → List ℕ → List ℕ
+unshown_of plan first = if needs_own plan first then names_of (left_of (ranked_of plan first)) else []

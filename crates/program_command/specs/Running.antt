@@ -19,10 +19,11 @@ use Rattle.program_plan.specs.declared.macros.Macros.{Macros}
 use Rattle.program_plan.specs.Others.{asks_for_others}
 use Rattle.program_plan.specs.Prefix.{prefix}
 use Rattle.program_plan.specs.Texts.{macro_names}
+use Rattle.program_command.specs.Own.{unshown_of}
 use Rattle.program_command.specs.Plan.{AreOptions, IsSelected, page_limits_of, plan_of}
 use Rattle.program_command.specs.Printing.{AreAllShort, Printed}
 use Rattle.program_command.specs.declared.endings.Ending.{Ending}
-use Rattle.program_command.specs.declared.endings.Ending.TheVariants.{Done, Limit, NoRoom, TooLong, ReadFault, WriteFault, OutOfMemory, NeedsOthers, LeftOut}
+use Rattle.program_command.specs.declared.endings.Ending.TheVariants.{Done, Unshown, Limit, NoRoom, TooLong, ReadFault, WriteFault, OutOfMemory, NeedsOthers, LeftOut}
 use Rattle.program_command.specs.declared.endings.Place.{Place}
 use Rattle.program_command.specs.declared.plan.Plan.{Plan}
 use Rattle.program_command.specs.declared.running.Reading.{Reading}
@@ -62,26 +63,40 @@ first_of (name ∷ names) = name
 abbrev pub IsPlace : List ℕ → ℕ → Place → Type 0
 IsPlace name line place = (place.name.now ≡ name) × (place.line ≡ line)
 
--- How the end of a page is told, with the line that was read last; that the output failed, also where it did behind the page.
-abbrev pub IsTold : List ℕ → Report → Ending → Type 0
-IsTold name report Done = report.outcome ≡ outcomes.Done
-IsTold name report (Limit place which) =
+-- all was printed but characters of these names, if there are any
+abbrev pub IsWholeBut : List ℕ → List ℕ → Ending → Type 0
+IsWholeBut name unshown Done = unshown ≡ []
+IsWholeBut name unshown (Unshown first names) = (first.now ≡ name) × (names.items ≡ unshown) × (unshown ≢ [])
+IsWholeBut name unshown other = ⊥
+
+-- How the end of a page is told, with the line that was read last, or the characters that are not shown; that the output failed,
+-- also where it did behind the page.
+abbrev pub IsTold : List ℕ → List ℕ → Report → Ending → Type 0
+IsTold name unshown report Done = (report.outcome ≡ outcomes.Done) × IsWholeBut name unshown Done
+IsTold name unshown report (Unshown first names) = (report.outcome ≡ outcomes.Done) × IsWholeBut name unshown (Unshown first names)
+IsTold name unshown report (Limit place which) =
     (at : ℕ) × (report.outcome ≡ outcomes.Limit which at) × IsPlace name report.line place
-IsTold name report (NoRoom place) = (report.outcome ≡ outcomes.NoRoom) × IsPlace name report.line place
-IsTold name report TooLong = report.outcome ≡ outcomes.TooLong
-IsTold name report (ReadFault place) = (report.outcome ≡ outcomes.ReadFault) × IsPlace name report.line place
-IsTold name report WriteFault = ⊤
-IsTold name report (LeftOut place why) = (report.outcome ≡ outcomes.Done) × (place.name.now ≡ name)
-IsTold name report other = ⊥
+IsTold name unshown report (NoRoom place) = (report.outcome ≡ outcomes.NoRoom) × IsPlace name report.line place
+IsTold name unshown report TooLong = report.outcome ≡ outcomes.TooLong
+IsTold name unshown report (ReadFault place) = (report.outcome ≡ outcomes.ReadFault) × IsPlace name report.line place
+IsTold name unshown report WriteFault = ⊤
+IsTold name unshown report (LeftOut place why) = (report.outcome ≡ outcomes.Done) × (place.name.now ≡ name)
+IsTold name unshown report other = ⊥
 
 -- a text is left out
 abbrev pub IsLeftOut : List ℕ → Ending → Type 0
 IsLeftOut name (LeftOut place why) = place.name.now ≡ name
 IsLeftOut name other = ⊥
 
+-- all was printed, or all but some characters
+abbrev pub IsWhole : Ending → Type 0
+IsWhole Done = ⊤
+IsWhole (Unshown name names) = ⊤
+IsWhole other = ⊥
+
 -- it ended as before, or where all was printed a text was left out
 abbrev pub MayLeaveOut : List ℕ → Ending → Ending → Type 0
-MayLeaveOut name before after = (after ≡ before) ⊎ ((before ≡ Done) × IsLeftOut name after)
+MayLeaveOut name before after = (after ≡ before) ⊎ (IsWhole before × IsLeftOut name after)
 
 -- A run may end so before its page: a macro file fails, memory is wanting; or the output, which was flushed, failed.
 abbrev pub IsBefore : Ending → Type 0
@@ -118,7 +133,7 @@ pub record IsDocument (job : Asked) (around : Surroundings) (files : Option Supp
   pub report : Report
   pub printed : Printed plan first
       (record { macros = macros; options = options; page_limits = page_limits_of job; limits = job.limits }) q report held new
-  pub told : IsTold (first_of job.files) report ending
+  pub told : IsTold (first_of job.files) (unshown_of plan first) report ending
 
 -- nothing goes out, and the run ends before its page
 pub record EndsBefore (ending : Ending) (held new : Option (List ℕ)) : Type 0 where

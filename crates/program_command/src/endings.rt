@@ -3,7 +3,7 @@ ghost use Rattle.std.specs.Prelude.{◌≡◌, codes};
 ghost use Rattle.nr_command_options.specs.Inputs.{macro_path, reading_of};
 ghost use Rattle.nr_command.specs.Opening.{name_of};
 ghost use Rattle.filters.specs.Endings.{Tells};
-ghost use Rattle.program_command.specs.Endings.{line_of, limit_text, placed, status_of, told, told_at, why_text};
+ghost use Rattle.program_command.specs.Endings.{line_of, limit_text, placed, status_of, told, told_at, unshown_line, why_text};
 
 use document_sources::Why;
 use filters::put_all;
@@ -23,10 +23,12 @@ pub struct Place<'a> {
 }
 
 /// How the program ended.
-#[derive(Clone, Copy)]
+#[derive(Drop)]
 pub enum Ending<'a> {
     /// All went out.
     Done,
+    /// All went out of texts of which the first has this name, but characters of these names.
+    Unshown(&'a str, Vec<u8>),
     /// The next move would have passed a limit.
     Limit(Place<'a>, Measure),
     /// What goes out of a table at once has no room.
@@ -54,11 +56,11 @@ pub enum Ending<'a> {
 }
 
 /// The status of an ending.
-fn status(ending: Ending<'_>) -> u8
-    ensures { result ≡ status_of ending.entry }
+fn status(ending: &Ending<'_>) -> u8
+    ensures { result ≡ status_of ending.now }
 {
     match ending {
-        Ending::Done => 0,
+        Ending::Done | Ending::Unshown(_, _) => 0,
         Ending::Limit(_, _) | Ending::NoRoom(_) | Ending::TooLong => 1,
         Ending::BadWord(_) => 2,
         Ending::CannotOpen(_)
@@ -105,6 +107,21 @@ fn put_line<E: Sink>(what: &str, name: &str, errors: &mut E)
         (told what.now name.now) }
 {
     let parts = [b"nulbiko: ", what.as_bytes(), name.as_bytes(), b"\n"];
+    let _ = put_all(&parts, errors);
+}
+
+/// Writes the line of texts of which characters of these names are not shown.
+fn put_unshown<E: Sink>(name: &str, names: &[u8], errors: &mut E)
+    ensures { Tells (E.held errors.old) (E.held errors.new) (E.failures errors.old) (E.failures errors.new)
+        (unshown_line name.now names.now) }
+{
+    let parts = [
+        b"nulbiko: ",
+        name.as_bytes(),
+        b": characters not shown:",
+        names,
+        b"\n",
+    ];
     let _ = put_all(&parts, errors);
 }
 
@@ -169,8 +186,9 @@ pub(crate) fn tell<E: Sink>(ending: Ending<'_>, errors: &mut E) -> u8
     ensures told { Tells (E.held errors.old) (E.held errors.new) (E.failures errors.old)
         (E.failures errors.new) (line_of ending.entry) }
 {
+    let status = status(&ending);
     put_ending(ending, errors);
-    status(ending)
+    status
 }
 
 /// Writes the line of an ending.
@@ -180,6 +198,7 @@ fn put_ending<E: Sink>(ending: Ending<'_>, errors: &mut E)
 {
     match ending {
         Ending::Done | Ending::NeedsOthers => {}
+        Ending::Unshown(name, names) => put_unshown(name, &names, errors),
         Ending::Limit(place, which) => {
             put_placed(place, limit_text(which), " limit passed", errors)
         }

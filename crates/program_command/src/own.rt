@@ -5,7 +5,7 @@ ghost use Rattle.document_reader.specs.Page.{IsShort, man_of, plain_of};
 ghost use Rattle.preconv_converter.specs.declared.target.Target.TheVariants.{Utf8};
 ghost use Rattle.utf8_own_characters.specs.Counting.{is_once};
 ghost use Rattle.utf8_own_characters.specs.Table.{Good};
-ghost use Rattle.program_command.specs.Own.{HasOwn, counts_of, may_need_own};
+ghost use Rattle.program_command.specs.Own.{HasOwn, counts_of, may_need_own, names_in};
 ghost use Rattle.program_command.specs.Printing.{AreShort, OwnShows, Printed, Where, given_by, own_showing};
 
 use crate::plan::Plan;
@@ -62,6 +62,16 @@ pub(crate) fn own_cells(
         return Ok(None);
     }
     Ok(Some(Cells::of(alloc, &counts)?))
+}
+
+/// Names the characters that the table of a page's own lacks; there is nothing where it has all, or the page has none.
+pub(crate) fn unshown(own: &Option<Cells>, alloc: Global) -> Result<Vec<u8>, AllocError>
+    ensures { IfOk result (λ names. names.items ≡ names_in own.now) }
+{
+    match own {
+        Some(cells) => cells.left_out(alloc),
+        None => Ok(Vec::new(alloc)),
+    }
 }
 
 /// Prints a page by its plan: with the fixed table of it, or with that of its own characters, if it has them. Gives the output back;

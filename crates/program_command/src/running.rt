@@ -7,14 +7,14 @@ ghost use Rattle.program_options.specs.Job.{asked_of};
 ghost use Rattle.program_plan.specs.Kinds.{is_manual};
 ghost use Rattle.program_plan.specs.Macros.{macros_of};
 ghost use Rattle.program_plan.specs.Texts.{macro_names};
-ghost use Rattle.program_command.specs.Own.{HasOwn};
+ghost use Rattle.program_command.specs.Own.{HasOwn, names_in};
 ghost use Rattle.program_command.specs.Plan.{AreOptions, IsSelected, plan_of};
 ghost use Rattle.program_command.specs.Printing.{AreShort};
 ghost use Rattle.program_command.specs.Program.{IsOfRun, Passes};
-ghost use Rattle.program_command.specs.Running.{AreMacros, FrontGives, IsReading, IsTold, Runs, files_of, first_of, is_for_others, text_of, under, with_named, MayLeaveOut};
+ghost use Rattle.program_command.specs.Running.{AreMacros, FrontGives, IsReading, IsTold, IsWholeBut, Runs, files_of, first_of, is_for_others, text_of, under, with_named, MayLeaveOut};
 
 use crate::endings::{Ending, Place};
-use crate::own::{own_cells, print_by_plan};
+use crate::own::{own_cells, print_by_plan, unshown};
 use crate::plan::{LOOKED_AT, MORE_LOOKED_AT, Plan, limits_of, options_of, plan_of};
 use crate::printing::Means;
 use crate::surroundings::Surroundings;
@@ -47,17 +47,28 @@ pub(crate) struct Reading {
     pub coding: Option<Coding>,
 }
 
-/// What a report comes to, for texts of which the first has this name.
-fn ending_of<'a>(report: &Report, name: &'a str) -> Ending<'a>
+/// How a page ended that was printed whole, but for these characters, if there are any.
+fn printed<'a>(name: &'a str, unshown: Vec<u8>) -> Ending<'a>
     ensures run { IsOfRun result }
-    ensures told { IsTold name.entry.now report.now result }
+    ensures told { IsWholeBut name.entry.now unshown.items result }
+{
+    if unshown.is_empty() {
+        return Ending::Done;
+    }
+    Ending::Unshown(name, unshown)
+}
+
+/// What a report comes to, for texts of which the first has this name, and of which these characters are not shown.
+fn ending_of<'a>(report: &Report, name: &'a str, unshown: Vec<u8>) -> Ending<'a>
+    ensures run { IsOfRun result }
+    ensures told { IsTold name.entry.now unshown.items report.now result }
 {
     let place = Place {
         name,
         line: report.line,
     };
     match report.outcome {
-        Outcome::Done => Ending::Done,
+        Outcome::Done => printed(name, unshown),
         Outcome::Limit { which, .. } => Ending::Limit(place, which),
         Outcome::NoRoom => Ending::NoRoom(place),
         Outcome::ReadFault => Ending::ReadFault(place),
@@ -187,7 +198,7 @@ fn with_left_out<'a>(ending: Ending<'a>, name: &'a str, first: Option<LeftOut>) 
         return ending;
     };
     match ending {
-        Ending::Done => {
+        Ending::Done | Ending::Unshown(_, _) => {
             let place = Place {
                 name,
                 line: left.line,
@@ -257,6 +268,8 @@ struct Ready {
     plan: Plan,
     /// The characters of its own table, if it has one.
     own: Option<Cells>,
+    /// The names of the characters that it lacks.
+    unshown: Vec<u8>,
     options: Options,
     desk: Desk,
 }
@@ -274,6 +287,7 @@ fn make_ready<T: Source + Drop>(
         ≡ plan_of (asked_of job.now) around.now (macros_of (is_manual front.now) (asked_of job.now)) front.now)) }
     ensures own { IfOk result (λ made. IfSome made (λ ready. AreShort ready.plan.stages front.now →
         HasOwn ready.plan front.now ready.own)) }
+    ensures unshown { IfOk result (λ made. IfSome made (λ ready. ready.unshown.items ≡ names_in ready.own)) }
     ensures macros { IfOk result (λ made. IfSome made (λ ready. AreMacros (asked_of job.now)
         (macros_of (is_manual front.now) (asked_of job.now)) (files_supply (map T.supply macros.old)) ready.before.items)) }
     ensures options { IfOk result (λ made. IfSome made (λ ready. AreOptions (asked_of job.now) ready.plan ready.options)) }
@@ -286,12 +300,14 @@ fn make_ready<T: Source + Drop>(
     }
     let plan = plan_of(job, kind, around, front)?;
     let own = own_cells(&plan, front, around.alloc)?;
+    let unshown = unshown(&own, around.alloc)?;
     let desk = Desk::new(&mut CountedAlloc::new(around.alloc), job.limits)?;
     let options = options_of(job, &plan, select);
     Ok(Some(Ready {
         before,
         plan,
         own,
+        unshown,
         options,
         desk,
     }))
@@ -325,6 +341,7 @@ fn run_front<'a, 'p, T: Source + Drop, R: Source + Drop, W: Sink + Drop>(
         before,
         plan,
         own,
+        unshown,
         options,
         mut desk,
     } = ready;
@@ -336,7 +353,7 @@ fn run_front<'a, 'p, T: Source + Drop, R: Source + Drop, W: Sink + Drop>(
     };
     let (output, printed) = print_by_plan(front, &own, &plan, means, &mut desk, output);
     match printed {
-        Ok(report) => (output, Ok(ending_of(&report, name))),
+        Ok(report) => (output, Ok(ending_of(&report, name, unshown))),
         Err(error) => (output, Err(error)),
     }
 }

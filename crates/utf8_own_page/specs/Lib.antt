@@ -1,3 +1,4 @@
+pub mod Lacking
 pub mod Looking
 pub mod Needing
 pub mod Signs

@@ -1,13 +1,15 @@
 //! The characters of a page's own table, in memory of their own.
 ghost use Rattle.std.specs.Prelude.{◌≡◌, ◌<◌, Some, length, true, IfOk};
 ghost use Rattle.nr_units.specs.Source.{Never, Supply};
-ghost use Rattle.utf8_own_characters.specs.Choosing.{choice, chosen, nothing};
+ghost use Rattle.utf8_own_characters.specs.Choosing.{choice, chosen, left_out, nothing};
 ghost use Rattle.utf8_own_characters.specs.Counting.{is_once};
 ghost use Rattle.utf8_own_characters.specs.Ranking.{ranked};
 ghost use Rattle.utf8_own_characters.specs.Table.{Good};
+ghost use Rattle.utf8_own_page.specs.Lacking.{left_of, names_of};
 ghost use Rattle.utf8_own_page.specs.Looking.{counts_of};
 ghost use Rattle.utf8_own_page.specs.Needing.{IsMadeOf};
 
+use super::lacking::{lacking, names_of};
 use super::looking::{MOST_COUNTED, SLOTS, look_at_page};
 use super::making::table_of;
 use nr_units::source::Source;
@@ -67,8 +69,11 @@ pub struct Cells {
     narrow: Vec<Cluster>,
     wide: Vec<Cluster>,
     slots: Vec<u16>,
+    /// How many have no room.
+    left: usize,
     ghost once: { is_once ranked.items ≡ true },
     ghost cells: { choice narrow.items wide.items ≡ chosen nothing ranked.items },
+    ghost left_is: { left ≡ length (left_out nothing ranked.items) },
 }
 
 impl Model for Cells {
@@ -92,7 +97,7 @@ impl Cells {
         let mut slots = vec![in alloc; 0u16; SLOTS]?;
         let mut narrow = SliceVec::over(&mut narrow_cells);
         let mut wide = SliceVec::over(&mut wide_cells);
-        choose(&order, &mut narrow, &mut wide);
+        let left = choose(&order, &mut narrow, &mut wide);
         fill_slots(narrow.as_slice(), wide.as_slice(), &mut slots);
         let mut kept_narrow = Vec::with_capacity(alloc, narrow.len())?;
         kept_narrow.extend_from_slice(narrow.as_slice())?;
@@ -103,6 +108,7 @@ impl Cells {
             narrow: kept_narrow,
             wide: kept_wide,
             slots,
+            left,
         })
     }
 
@@ -112,5 +118,19 @@ impl Cells {
         ensures good { Good result }
     {
         table_of(&self.ranked, &self.narrow, &self.wide, &self.slots)
+    }
+
+    /// Names those that have no room: the first eight of them, and how many more there are. There is nothing where all have room.
+    ///
+    /// Proved: What is told of characters that are not shown are the numbers of the most frequent eight that were counted and are
+    /// not in the table of a page, and how many more there are. (`left_out`; `names_of` in Lacking.antt)
+    pub fn left_out(&self, alloc: Global) -> Result<Vec<u8>, AllocError>
+        ensures { IfOk result (λ text. text.items ≡ names_of (left_of self.now)) }
+    {
+        if self.left == 0 {
+            return Ok(Vec::new(alloc));
+        }
+        let cells = lacking(alloc, &self.ranked, &self.narrow, &self.wide)?;
+        names_of(alloc, &cells)
     }
 }

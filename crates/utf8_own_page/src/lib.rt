@@ -1,9 +1,10 @@
 //! The table of a page's own characters: what a page prints is looked at, and where no fixed table has all of it, one is made of it.
 //!
-//! It stands on preconv_converter, utf8_own_characters, utf8_characters, tbl_table, nr_vectors and nr_units. To read: `looking`, `needing`, `making`, `cells`, `signs`.
+//! It stands on preconv_converter, utf8_own_characters, utf8_characters, tbl_table, nr_vectors and nr_units. To read: `looking`, `needing`, `making`, `lacking`, `cells`, `signs`.
 #![tactic(auto)]
 
 mod cells;
+mod lacking;
 mod looking;
 mod making;
 mod needing;

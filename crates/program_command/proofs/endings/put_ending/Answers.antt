@@ -3,6 +3,9 @@ use Rattle.filters.proofs.Telling.{Tells-put}
 use Rattle.program_command.proofs.Telling.{Tells-at}
 use Rattle.program_command.proofs.endings.put_ending.Goals as goal
 
+pub returns-in-Unshown : goal.returns-in-Unshown
+returns-in-Unshown g c = Tells-at _ _ _ _ _ _ c.in-Unshown.is (rw c.deref.ensures.value at c.put_unshown.ensures)
+
 pub returns-in-Limit : goal.returns-in-Limit
 returns-in-Limit g c = Tells-at _ _ _ _ _ _ c.in-Limit.is (rw c.limit_text.ensures at c.put_placed.ensures)
 

@@ -1,9 +1,11 @@
-use Rattle.std.proofs.Common.{ℕ, List, map, sym, subst}
+use Rattle.std.proofs.Common.{ℕ, List, map, sym, subst, ◌∙◌}
 use Rattle.nr_command_options.specs.Files.{files_supply}
 use Rattle.program_options.specs.Job.{Asked, asked_of}
 use Rattle.program_plan.specs.Kinds.{is_manual}
 use Rattle.program_plan.specs.Macros.{macros_of}
+use Rattle.program_command.specs.Own.{unshown_of}
 use Rattle.program_command.specs.Running.{AreMacros, IsTold}
+use Rattle.program_command.proofs.Shown.{names-own}
 use Rattle.program_command.proofs.Texts.{FrontGives-of}
 use Rattle.program_command.proofs.running.run_front.Goals as goal
 
@@ -20,4 +22,6 @@ returns-in-Ok-printed-clause-prints g c =
     (subst (λ (m : List ℕ). AreMacros job (macros_of (is_manual first) job) files m) (sym c.deref.ensures.value) (rw c.in-Some.is at c.in-Ok.ensures.macros))
     (rw c.in-Some.is at c.in-Ok.ensures.options) c.limits_of.ensures (rw c.in-Some.is at c.in-Ok.ensures.limits)
     (rw c.in-Ok-printed.is at prints)
-    (subst (λ (n : List ℕ). IsTold n c.in-Ok-printed.report c.ending_of.result) c.first_name-name.ensures c.ending_of.ensures.told)
+    (λ short. subst (λ (n : List ℕ). IsTold n (unshown_of ready.plan first) c.in-Ok-printed.report c.ending_of.result) c.first_name-name.ensures
+    (subst (λ (u : List ℕ). IsTold c.first_name-name.result.now u c.in-Ok-printed.report c.ending_of.result)
+    ((rw c.in-Some.is at c.in-Ok.ensures.unshown) ∙ names-own ready.plan first ready.own (own short)) c.ending_of.ensures.told))

@@ -10,8 +10,8 @@ use Rattle.program_command.proofs.running.run_texts.Goals as goal
 pub returns-in-Ok-clause-passed_on : goal.returns-in-Ok-clause-passed_on
 returns-in-Ok-clause-passed_on g c = λ sound. rw c.in-Ok.ensures.passed_on refl
 
-pub returns-in-Err-clause-passed_on : goal.returns-in-Err-clause-passed_on
-returns-in-Err-clause-passed_on g c = λ not. absurd (not refl)
+pub returns-clause-passed_on : goal.returns-clause-passed_on
+returns-clause-passed_on g c = λ not. absurd (not refl)
 
 pub returns-in-Ok-clause-runs : goal.returns-in-Ok-clause-runs
 returns-in-Ok-clause-runs g c =
@@ -29,8 +29,8 @@ returns-in-Ok-clause-runs g c =
     c.settled-ending.ensures.ended c.settled-ending.ensures.refused)))
     c.in-Ok.ensures.held
 
-pub returns-in-Err-clause-runs : goal.returns-in-Err-clause-runs
-returns-in-Err-clause-runs g c =
+pub returns-clause-runs : goal.returns-clause-runs
+returns-clause-runs g c =
     let job = asked_of c.args.job.now in
     let held = g.W.Sink.held in
     let ran = c.run_pages-output.ensures in
