@@ -12,7 +12,7 @@ use Rattle.nr_machine.specs.Printing.{bytes_of, text}
 use Rattle.nr_machine.specs.State.{Ended}
 use Rattle.nr_laws.specs.Laws.{IsPrefixOf}
 use Rattle.utf8_converter.specs.Cells.{Cell, Once, Over, converted, goes_out, shows, strikes, turning, way_after, way_to}
-use Rattle.utf8_converter.specs.Reading.{Told, ended, fed, first_reader, fresh, out, put_alone, read, read_after, released, released_and_fresh, shut, then_told, told, with_half}
+use Rattle.utf8_converter.specs.Reading.{Emitted, ended, fed, first_reader, fresh, out, put_alone, read, read_after, released, released_and_fresh, shut, then_emitted, emitted, with_half}
 use Rattle.utf8_converter.specs.declared.reader.Half.{Half}
 use Rattle.utf8_converter.specs.declared.reader.Half.TheVariants.{Nothing, Byte, Backspaced}
 use Rattle.utf8_converter.specs.declared.reader.Reader.{Reader}
@@ -26,10 +26,10 @@ use Rattle.utf8_converter.proofs.Reading.{fed-append_bytes, fed-append_reader}
 -- there is none, or the last is a newline
 pub data AreLines : List ℕ → Type 0 where
   None_is : (xs : List ℕ) → xs ≡ [] → AreLines xs
-  Last_is : (xs front : List ℕ) → xs ≡ front ++ code "\n" ∷ [] → AreLines xs
+  Last_is : (xs prefix : List ℕ) → xs ≡ prefix ++ code "\n" ∷ [] → AreLines xs
 
 after_lines : (xs ys : List ℕ) → AreLines xs → AreLines ys → AreLines (xs ++ ys)
-after_lines xs ys l (Last_is y front is) = Last_is (xs ++ ys) (xs ++ front) (ap (λ (z : List ℕ). xs ++ z) is ∙ sym (append_assoc xs front (code "\n" ∷ [])))
+after_lines xs ys l (Last_is y prefix is) = Last_is (xs ++ ys) (xs ++ prefix) (ap (λ (z : List ℕ). xs ++ z) is ∙ sym (append_assoc xs prefix (code "\n" ∷ [])))
 after_lines xs ys l (None_is y is) = subst AreLines (sym (ap (λ (z : List ℕ). xs ++ z) is ∙ append-nil xs)) l
 
 all_lines : {A : Type 0} (f : A → List ℕ) (xs : List A) → ((x : A) → AreLines (f x)) → AreLines (flat_map f xs)
@@ -61,7 +61,7 @@ plain_way (Escapes look) = refl
 fresh_quiet : (r : Reader) → r.half ≡ Nothing → IsQuiet (fresh (code "\n") r).reader
 fresh_quiet r none = record { nothing = none; plain = plain_way r.way }
 
-alone_half : (x : Bool) (c : Cell) (r : Reader) → (if x then out c r else told r [] 1).reader.half ≡ r.half
+alone_half : (x : Bool) (c : Cell) (r : Reader) → (if x then out c r else emitted r [] 1).reader.half ≡ r.half
 alone_half true c r = refl
 alone_half false c r = refl
 
@@ -84,7 +84,7 @@ newline_quiet Nothing r is = fresh_quiet r is
 newline_quiet (Byte a) r is = fresh_quiet (released r.half r).reader (released_half r.half r refl)
 newline_quiet (Backspaced a) r is = by_strikes (strikes r.table a (code "\n")) a r (never ((a == code "\n") || (a == code "_")))
 
-ends_quiet : (h : Half) (r : Reader) → h ≡ Nothing → turning r.way Plain ≡ [] → (then_told (released h r) (λ s. shut s)).bytes ≡ []
+ends_quiet : (h : Half) (r : Reader) → h ≡ Nothing → turning r.way Plain ≡ [] → (then_emitted (released h r) (λ s. shut s)).bytes ≡ []
 ends_quiet Nothing r is plain = plain
 ends_quiet (Byte a) r is plain = absurd (let no : Byte a ≡ Nothing = is in cc)
 ends_quiet (Backspaced a) r is plain = absurd (let no : Backspaced a ≡ Nothing = is in cc)
@@ -94,29 +94,29 @@ quiet_ends r q = ends_quiet r.half r q.nothing q.plain
 
 -- ---- text is lengthened
 
-fed_quiet : (r : Reader) (front : List ℕ) → IsQuiet (fed r (front ++ code "\n" ∷ [])).reader
-fed_quiet r front =
-    let s = (fed r front).reader in
-    subst IsQuiet (sym (fed-append_reader r front (code "\n" ∷ []))) (newline_quiet s.half s refl)
+fed_quiet : (r : Reader) (prefix : List ℕ) → IsQuiet (fed r (prefix ++ code "\n" ∷ [])).reader
+fed_quiet r prefix =
+    let s = (fed r prefix).reader in
+    subst IsQuiet (sym (fed-append_reader r prefix (code "\n" ∷ []))) (newline_quiet s.half s refl)
 
-fed_ends : (r : Reader) (xs front : List ℕ) → xs ≡ front ++ code "\n" ∷ [] → (ended (fed r xs).reader).bytes ≡ []
-fed_ends r xs front is = ap (λ (z : List ℕ). (ended (fed r z).reader).bytes) is ∙ quiet_ends (fed r (front ++ code "\n" ∷ [])).reader (fed_quiet r front)
+fed_ends : (r : Reader) (xs prefix : List ℕ) → xs ≡ prefix ++ code "\n" ∷ [] → (ended (fed r xs).reader).bytes ≡ []
+fed_ends r xs prefix is = ap (λ (z : List ℕ). (ended (fed r z).reader).bytes) is ∙ quiet_ends (fed r (prefix ++ code "\n" ∷ [])).reader (fed_quiet r prefix)
 
 none_converted : (table : Table) (escapes : Bool) → converted table escapes [] ≡ []
 none_converted table true = refl
 none_converted table false = refl
 
-pub lines-front : (table : Table) (escapes : Bool) (xs more : List ℕ) → AreLines xs → IsPrefixOf (converted table escapes xs) (converted table escapes (xs ++ more))
-lines-front table escapes xs more (None_is x is) = record {
+pub lines-prefix : (table : Table) (escapes : Bool) (xs more : List ℕ) → AreLines xs → IsPrefixOf (converted table escapes xs) (converted table escapes (xs ++ more))
+lines-prefix table escapes xs more (None_is x is) = record {
   rest = converted table escapes (xs ++ more);
   whole_is = ap (λ (z : List ℕ). z ++ converted table escapes (xs ++ more)) (sym (ap (λ (z : List ℕ). converted table escapes z) is ∙ none_converted table escapes));
 }
-lines-front table escapes xs more (Last_is x front is) =
+lines-prefix table escapes xs more (Last_is x prefix is) =
     let r = first_reader table escapes in
     let first = fed r xs in
     let after = fed first.reader more in
     let last = (ended (fed r (xs ++ more)).reader).bytes in
-    let one : converted table escapes xs ≡ first.bytes = converted-fed table escapes xs ∙ ap (λ (z : List ℕ). first.bytes ++ z) (fed_ends r xs front is) ∙ append-nil first.bytes in
+    let one : converted table escapes xs ≡ first.bytes = converted-fed table escapes xs ∙ ap (λ (z : List ℕ). first.bytes ++ z) (fed_ends r xs prefix is) ∙ append-nil first.bytes in
     record {
       rest = after.bytes ++ last;
       whole_is = converted-fed table escapes (xs ++ more) ∙ ap (λ (z : List ℕ). z ++ last) (fed-append_bytes r xs more)

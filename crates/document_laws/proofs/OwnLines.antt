@@ -72,32 +72,32 @@ quiet_ends t r q = by_half t r.half r q.nothing ∙ by_lead r.way r.lead q.unpai
 
 -- ---- text is lengthened
 
-fed_quiet : (t : Characters) (r : Reader) (front : List ℕ) → IsQuiet (fed t r (front ++ code "\n" ∷ [])).reader
-fed_quiet t r front =
-    let s = (fed t r front).reader in
-    subst IsQuiet (sym (fed-append_reader t r front (code "\n" ∷ []))) (newline_quiet t s.half s)
+fed_quiet : (t : Characters) (r : Reader) (prefix : List ℕ) → IsQuiet (fed t r (prefix ++ code "\n" ∷ [])).reader
+fed_quiet t r prefix =
+    let s = (fed t r prefix).reader in
+    subst IsQuiet (sym (fed-append_reader t r prefix (code "\n" ∷ []))) (newline_quiet t s.half s)
 
-fed_ends : (t : Characters) (r : Reader) (xs front : List ℕ) → xs ≡ front ++ code "\n" ∷ [] → ended t (fed t r xs).reader ≡ []
-fed_ends t r xs front is =
-    ap (λ (z : List ℕ). ended t (fed t r z).reader) is ∙ quiet_ends t (fed t r (front ++ code "\n" ∷ [])).reader (fed_quiet t r front)
+fed_ends : (t : Characters) (r : Reader) (xs prefix : List ℕ) → xs ≡ prefix ++ code "\n" ∷ [] → ended t (fed t r xs).reader ≡ []
+fed_ends t r xs prefix is =
+    ap (λ (z : List ℕ). ended t (fed t r z).reader) is ∙ quiet_ends t (fed t r (prefix ++ code "\n" ∷ [])).reader (fed_quiet t r prefix)
 
 none_converted : (t : Characters) (escapes : Bool) → converted t escapes [] ≡ []
 none_converted t true = refl
 none_converted t false = refl
 
-pub own-lines-front : (t : Characters) (escapes : Bool) (xs more : List ℕ) → AreLines xs → IsPrefixOf (converted t escapes xs) (converted t escapes (xs ++ more))
-own-lines-front t escapes xs more (None_is x is) = record {
+pub own-lines-prefix : (t : Characters) (escapes : Bool) (xs more : List ℕ) → AreLines xs → IsPrefixOf (converted t escapes xs) (converted t escapes (xs ++ more))
+own-lines-prefix t escapes xs more (None_is x is) = record {
   rest = converted t escapes (xs ++ more);
   whole_is = ap (λ (z : List ℕ). z ++ converted t escapes (xs ++ more)) (sym (ap (λ (z : List ℕ). converted t escapes z) is ∙ none_converted t escapes));
 }
-own-lines-front t escapes xs more (Last_is x front is) =
+own-lines-prefix t escapes xs more (Last_is x prefix is) =
     let r = first escapes in
     let before = fed t r xs in
-    let behind = fed t before.reader more in
+    let following = fed t before.reader more in
     let last = ended t (fed t r (xs ++ more)).reader in
-    let one : converted t escapes xs ≡ before.bytes = converted-fed t escapes xs ∙ ap (λ (z : List ℕ). before.bytes ++ z) (fed_ends t r xs front is) ∙ append-nil before.bytes in
+    let one : converted t escapes xs ≡ before.bytes = converted-fed t escapes xs ∙ ap (λ (z : List ℕ). before.bytes ++ z) (fed_ends t r xs prefix is) ∙ append-nil before.bytes in
     record {
-      rest = behind.bytes ++ last;
+      rest = following.bytes ++ last;
       whole_is = converted-fed t escapes (xs ++ more) ∙ ap (λ (z : List ℕ). z ++ last) (fed-append_bytes t r xs more)
-          ∙ append_assoc before.bytes behind.bytes last ∙ ap (λ (z : List ℕ). z ++ (behind.bytes ++ last)) (sym one);
+          ∙ append_assoc before.bytes following.bytes last ∙ ap (λ (z : List ℕ). z ++ (following.bytes ++ last)) (sym one);
     }

@@ -1,4 +1,4 @@
 pub mod Carried
-pub mod Fronts
+pub mod Prefixes
 pub mod Reached
 pub mod Whole

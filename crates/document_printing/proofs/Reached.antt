@@ -17,20 +17,20 @@ use Rattle.utf8_converter.proofs.Text.{converted-lines}
 use Rattle.utf8_own_characters.specs.Table.{Characters}
 use Rattle.utf8_own_sink.specs.Cells as own
 use Rattle.utf8_own_sink.specs.Showing as owns
-use Rattle.utf8_own_sink.proofs.Finishing.{told-append}
+use Rattle.utf8_own_sink.proofs.Finishing.{emitted-append}
 use Rattle.document_printing.specs.declared.setup.Outcome.{Outcome}
 use Rattle.document_printing.specs.declared.setup.Outcome.TheVariants as outcomes
 use Rattle.document_printing.specs.declared.showing.PageTable.TheVariants.{Fixed}
 use Rattle.document_printing.specs.declared.showing.Spelling.{Spelling}
 use Rattle.document_printing.specs.declared.showing.Spelling.TheVariants.{Bytes, Utf8}
 use Rattle.document_printing.specs.Document.{GoesOut, Prints, Setting, TellsWrites, pages_of}
-use Rattle.document_printing.specs.Showing.{IsFront, IsShown, Shows, document, shown, told_shown}
-use Rattle.document_printing.specs.Laws.{IsFrontOfText, is_whole}
+use Rattle.document_printing.specs.Showing.{IsPrefix, IsShown, Shows, document, shown, reported_shown}
+use Rattle.document_printing.specs.Laws.{IsPrefixOfText, is_whole}
 
 -- ---- bytes go out as they are
 
-fronts : (held new : Option (List ℕ)) (bytes : List ℕ) → Appends held new bytes → AppendsPrefix held new bytes
-fronts held new bytes out = (bytes, [], sym (append-nil bytes), out)
+prefixes : (held new : Option (List ℕ)) (bytes : List ℕ) → Appends held new bytes → AppendsPrefix held new bytes
+prefixes held new bytes out = (bytes, [], sym (append-nil bytes), out)
 
 shows_goes : (s : Setting) (source : Supply) (n : ℕ) (ended : machine.Outcome) (held new : Option (List ℕ)) → GoesOut s source n ended held new → IsShown s Bytes source n ended held new
 shows_goes s source n ended held new g = record { ran = g.ran; out = g.out }
@@ -39,9 +39,9 @@ pub shows-bytes : (s : Setting) (source : Supply) (n : ℕ) (o : Outcome) (held 
 shows-bytes s source n outcomes.Done held new p = shows_goes s source n machines.Done held new p
 shows-bytes s source n (outcomes.Limit which at) held new p = shows_goes s source n (machines.Limit which at) held new p
 shows-bytes s source n outcomes.NoRoom held new p = p
-shows-bytes s source n outcomes.ReadFault held new p = fronts held new (pages_of s source n) p
-shows-bytes s source n outcomes.TooLong held new p = fronts held new (pages_of s source n) p
-shows-bytes s source n outcomes.WriteFault held new p = record { made = suc n; few = omega arith; front = p }
+shows-bytes s source n outcomes.ReadFault held new p = prefixes held new (pages_of s source n) p
+shows-bytes s source n outcomes.TooLong held new p = prefixes held new (pages_of s source n) p
+shows-bytes s source n outcomes.WriteFault held new p = record { made = suc n; few = omega arith; prefix = p }
 
 pub shows-bytes-as : (w : Spelling) (s : Setting) (source : Supply) (n : ℕ) (o : Outcome) (held new : Option (List ℕ)) → w ≡ Bytes → Prints s source n o held new → Shows s w source n o held new
 shows-bytes-as w s source n o held new is p = subst (λ (x : Spelling). Shows s x source n o held new) (sym is) (shows-bytes s source n o held new p)
@@ -72,33 +72,33 @@ all_shown s w begun failed source n before bytes puts new after k e came =
     done.0
 
 -- or a prefix of it
-front_shown : {T : Type 0} (s : Setting) (w : Spelling) (begun : Option (List ℕ)) (failed : ℕ) (source : Supply) (n : ℕ) (before bytes : List ℕ) (puts : ℕ) (new : Option (List ℕ)) (after : ℕ) (f : Fault)
+prefix_shown : {T : Type 0} (s : Setting) (w : Spelling) (begun : Option (List ℕ)) (failed : ℕ) (source : Supply) (n : ℕ) (before bytes : List ℕ) (puts : ℕ) (new : Option (List ℕ)) (after : ℕ) (f : Fault)
     → Ended T w begun failed before bytes puts new after (Err f) → bytes ≡ before ++ pages_of s source n → AppendsPrefix begun new (document s w source n)
-front_shown s w begun failed source n before bytes puts new after f e came =
+prefix_shown s w begun failed source n before bytes puts new after f e came =
     let cut : AppendsPrefix begun new (shown w (pages_of s source n)) × (after ≡ next_count failed) = e.shows (pages_of s source n) came in
     cut.0
 
 some_shown : {T : Type 0} (s : Setting) (w : Spelling) (begun : Option (List ℕ)) (failed : ℕ) (source : Supply) (n : ℕ) (before bytes : List ℕ) (puts : ℕ) (new : Option (List ℕ)) (after : ℕ) (x : Result T Fault)
     → Ended T w begun failed before bytes puts new after x → bytes ≡ before ++ pages_of s source n → AppendsPrefix begun new (document s w source n)
 some_shown s w begun failed source n before bytes puts new after (Ok k) e came =
-    fronts begun new (document s w source n) (all_shown s w begun failed source n before bytes puts new after k e came)
-some_shown s w begun failed source n before bytes puts new after (Err f) e came = front_shown s w begun failed source n before bytes puts new after f e came
+    prefixes begun new (document s w source n) (all_shown s w begun failed source n before bytes puts new after k e came)
+some_shown s w begun failed source n before bytes puts new after (Err f) e came = prefix_shown s w begun failed source n before bytes puts new after f e came
 
 -- a put failed: a prefix of the pages came
 short_shown : {T : Type 0} (s : Setting) (w : Spelling) (begun : Option (List ℕ)) (failed : ℕ) (source : Supply) (n : ℕ) (before bytes : List ℕ) (puts : ℕ) (new : Option (List ℕ)) (after : ℕ) (x : Result T Fault)
-    → Ended T w begun failed before bytes puts new after x → AppendsPrefix (Some before) (Some bytes) (pages_of s source (suc n)) → puts ≢ 0 → IsFront s w source n begun new
+    → Ended T w begun failed before bytes puts new after x → AppendsPrefix (Some before) (Some bytes) (pages_of s source (suc n)) → puts ≢ 0 → IsPrefix s w source n begun new
 short_shown s w begun failed source n before bytes puts new after x e came some =
     let P : List ℕ → Type 0 = λ xs. AppendsPrefix begun new (shown w xs) in
-    record { made = suc n; few = omega arith; front = subst P (sym came.2) (e.broke came.0 came.1 came.3 some) }
+    record { made = suc n; few = omega arith; prefix = subst P (sym came.2) (e.broke came.0 came.1 came.3 some) }
 
 pub shows-ended : {T : Type 0} (s : Setting) (w : Spelling) (begun : Option (List ℕ)) (failed : ℕ) (source : Supply) (n : ℕ) (o : Outcome) (before bytes : List ℕ) (none puts : ℕ) (new : Option (List ℕ)) (after : ℕ) (x : Result T Fault) → none ≡ 0 → Ended T w begun failed before bytes puts new after x → Prints s source n o (Some before) (Some bytes) → TellsWrites o none puts
-    → Shows s w source n (told_shown o (is_err x)) begun new
+    → Shows s w source n (reported_shown o (is_err x)) begun new
 shows-ended s w begun failed source n outcomes.Done before bytes none puts new after (Ok k) zero e p tells = record { ran = p.ran; out = all_shown s w begun failed source n before bytes puts new after k e p.out }
-shows-ended s w begun failed source n outcomes.Done before bytes none puts new after (Err f) zero e p tells = record { made = n; few = omega arith; front = front_shown s w begun failed source n before bytes puts new after f e p.out }
+shows-ended s w begun failed source n outcomes.Done before bytes none puts new after (Err f) zero e p tells = record { made = n; few = omega arith; prefix = prefix_shown s w begun failed source n before bytes puts new after f e p.out }
 shows-ended s w begun failed source n (outcomes.Limit which at) before bytes none puts new after (Ok k) zero e p tells = record { ran = p.ran; out = all_shown s w begun failed source n before bytes puts new after k e p.out }
-shows-ended s w begun failed source n (outcomes.Limit which at) before bytes none puts new after (Err f) zero e p tells = record { made = n; few = omega arith; front = front_shown s w begun failed source n before bytes puts new after f e p.out }
+shows-ended s w begun failed source n (outcomes.Limit which at) before bytes none puts new after (Err f) zero e p tells = record { made = n; few = omega arith; prefix = prefix_shown s w begun failed source n before bytes puts new after f e p.out }
 shows-ended s w begun failed source n outcomes.NoRoom before bytes none puts new after (Ok k) zero e p tells = (p.0, all_shown s w begun failed source n before bytes puts new after k e p.1)
-shows-ended s w begun failed source n outcomes.NoRoom before bytes none puts new after (Err f) zero e p tells = record { made = n; few = omega arith; front = front_shown s w begun failed source n before bytes puts new after f e p.1 }
+shows-ended s w begun failed source n outcomes.NoRoom before bytes none puts new after (Err f) zero e p tells = record { made = n; few = omega arith; prefix = prefix_shown s w begun failed source n before bytes puts new after f e p.1 }
 shows-ended s w begun failed source n outcomes.ReadFault before bytes none puts new after (Ok k) zero e p tells = some_shown s w begun failed source n before bytes puts new after (Ok k) e p
 shows-ended s w begun failed source n outcomes.ReadFault before bytes none puts new after (Err f) zero e p tells = some_shown s w begun failed source n before bytes puts new after (Err f) e p
 shows-ended s w begun failed source n outcomes.TooLong before bytes none puts new after (Ok k) zero e p tells = some_shown s w begun failed source n before bytes puts new after (Ok k) e p
@@ -109,7 +109,7 @@ shows-ended s w begun failed source n outcomes.WriteFault before bytes none puts
     short_shown s w begun failed source n before bytes puts new after (Err f) e p (λ none_did. next_some (sym (ap next_count zero) ∙ sym tells ∙ none_did))
 
 pub shows-as : {T : Type 0} (s : Setting) (w : Spelling) (begun : Option (List ℕ)) (failed : ℕ) (source : Supply) (n : ℕ) (v : Spelling) (k : ℕ) (o said : Outcome) (before bytes : List ℕ) (none puts : ℕ) (new : Option (List ℕ)) (after : ℕ) (x : Result T Fault)
-    → v ≡ w → k ≡ n → said ≡ told_shown o (is_err x) → none ≡ 0 → Ended T w begun failed before bytes puts new after x
+    → v ≡ w → k ≡ n → said ≡ reported_shown o (is_err x) → none ≡ 0 → Ended T w begun failed before bytes puts new after x
     → Prints s source n o (Some before) (Some bytes) → TellsWrites o none puts → Shows s v source k said begun new
 shows-as s w begun failed source n v k o said before bytes none puts new after x is moves same zero e p tells =
     let P : Spelling → Type 0 = λ y. Shows s y source k said begun new in
@@ -132,7 +132,7 @@ cut w begun failed before bytes came puts new after f e is =
     off.1
 
 tells-ended : {T : Type 0} (s : Setting) (w : Spelling) (begun : Option (List ℕ)) (failed : ℕ) (source : Supply) (n : ℕ) (o : Outcome) (before bytes : List ℕ) (none puts : ℕ) (new : Option (List ℕ)) (after : ℕ) (x : Result T Fault) → none ≡ 0 → Ended T w begun failed before bytes puts new after x → Prints s source n o (Some before) (Some bytes) → TellsWrites o none puts
-    → TellsWrites (told_shown o (is_err x)) failed after
+    → TellsWrites (reported_shown o (is_err x)) failed after
 tells-ended s w begun failed source n outcomes.Done before bytes none puts new after (Ok k) zero e p tells = went w begun failed before bytes (pages_of s source n) puts new after k e p.out
 tells-ended s w begun failed source n outcomes.Done before bytes none puts new after (Err f) zero e p tells = cut w begun failed before bytes (pages_of s source n) puts new after f e p.out
 tells-ended s w begun failed source n (outcomes.Limit which at) before bytes none puts new after (Ok k) zero e p tells = went w begun failed before bytes (pages_of s source n) puts new after k e p.out
@@ -148,7 +148,7 @@ tells-ended s w begun failed source n outcomes.WriteFault before bytes none puts
     absurd (next_some (sym (ap next_count zero) ∙ sym tells ∙ ok))
 tells-ended s w begun failed source n outcomes.WriteFault before bytes none puts new after (Err f) zero e p tells = cut w begun failed before bytes p.0 puts new after f e p.3
 
-pub tells-as : {T : Type 0} (s : Setting) (w : Spelling) (begun : Option (List ℕ)) (failed : ℕ) (source : Supply) (n : ℕ) (o said : Outcome) (before bytes : List ℕ) (none puts : ℕ) (new : Option (List ℕ)) (after : ℕ) (x : Result T Fault) → said ≡ told_shown o (is_err x) → none ≡ 0 → Ended T w begun failed before bytes puts new after x
+pub tells-as : {T : Type 0} (s : Setting) (w : Spelling) (begun : Option (List ℕ)) (failed : ℕ) (source : Supply) (n : ℕ) (o said : Outcome) (before bytes : List ℕ) (none puts : ℕ) (new : Option (List ℕ)) (after : ℕ) (x : Result T Fault) → said ≡ reported_shown o (is_err x) → none ≡ 0 → Ended T w begun failed before bytes puts new after x
     → Prints s source n o (Some before) (Some bytes) → TellsWrites o none puts → TellsWrites said failed after
 tells-as s w begun failed source n o said before bytes none puts new after x same zero e p tells =
     subst (λ (y : Outcome). TellsWrites y failed after) (sym same) (tells-ended s w begun failed source n o before bytes none puts new after x zero e p tells)
@@ -187,14 +187,14 @@ own_ends w m came new after (Err f) is e =
 
 -- with the page's own
 pub own-ended : (w : Spelling) (m : owns.Making) (before bytes : List ℕ) (puts : ℕ) (new : Option (List ℕ)) (after : ℕ) (x : Result (Unit {0}) Fault) → ((z : List ℕ) → shown w z ≡ own.converted m.table m.escapes z)
-    → before ≡ owns.told m []
-    → ((k : owns.Making) (came : List ℕ) → bytes ≡ owns.told k came → owns.Finishes k came new after x)
-    → ((k : owns.Making) (came more : List ℕ) → bytes ≡ owns.told k came → puts ≢ 0 → AppendsPrefix k.begun new (own.converted k.table k.escapes (came ++ more)))
+    → before ≡ owns.emitted m []
+    → ((k : owns.Making) (came : List ℕ) → bytes ≡ owns.emitted k came → owns.Finishes k came new after x)
+    → ((k : owns.Making) (came more : List ℕ) → bytes ≡ owns.emitted k came → puts ≢ 0 → AppendsPrefix k.begun new (own.converted k.table k.escapes (came ++ more)))
     → (IsOk x → puts ≡ 0) → Ended (Unit {0}) w m.begun m.failed before bytes puts new after x
 own-ended w m before bytes puts new after x is first shows broke fails = record {
-  shows = λ came so. own_ends w m came new after x (is came) (shows m came (so ∙ ap (λ (z : List ℕ). z ++ came) first ∙ sym (told-append m [] came)));
+  shows = λ came so. own_ends w m came new after x (is came) (shows m came (so ∙ ap (λ (z : List ℕ). z ++ came) first ∙ sym (emitted-append m [] came)));
   broke = λ came more so some. subst (λ (z : List ℕ). AppendsPrefix m.begun new z) (sym (is (came ++ more)))
-      (broke m came more (so ∙ ap (λ (z : List ℕ). z ++ came) first ∙ sym (told-append m [] came)) some);
+      (broke m came more (so ∙ ap (λ (z : List ℕ). z ++ came) first ∙ sym (emitted-append m [] came)) some);
   fails = fails;
 }
 
@@ -216,12 +216,12 @@ reached s table escapes source n outcomes.TooLong bytes all shows = absurd (let 
 reached s table escapes source n outcomes.WriteFault bytes all shows = absurd (let never : false ≡ true = all in cc)
 
 pub cut-reached : (s : Setting) (table : Table) (escapes : Bool) (source : Supply) (n : ℕ) (bytes : List ℕ)
-    → Shows s (Utf8 (Fixed table) escapes) source n outcomes.WriteFault (Some []) (Some bytes) → IsFrontOfText escapes bytes
+    → Shows s (Utf8 (Fixed table) escapes) source n outcomes.WriteFault (Some []) (Some bytes) → IsPrefixOfText escapes bytes
 cut-reached s table escapes source n bytes shows =
-    let front = shows.front in
+    let prefix = shows.prefix in
     let P : List ℕ → Type 0 = λ xs. IsText escapes xs in
     let lines = converted-lines table escapes (pages_of s source shows.made) in
-    record { rest = front.1; text = subst P (front.2 ∙ ap (λ (xs : List ℕ). xs ++ front.1) (sym front.3)) lines.text }
+    record { rest = prefix.1; text = subst P (prefix.2 ∙ ap (λ (xs : List ℕ). xs ++ prefix.1) (sym prefix.3)) lines.text }
 
 pub lines-stay : (s : Setting) (table : Table) (escapes : Bool) (source : Supply) (n : ℕ) → KeepsLines table escapes (pages_of s source n) (document s (Utf8 (Fixed table) escapes) source n)
 lines-stay s table escapes source n = converted-lines table escapes (pages_of s source n)

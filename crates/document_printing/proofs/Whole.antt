@@ -12,9 +12,9 @@ use Rattle.nr_machine.specs.Run.{Answers}
 use Rattle.nr_machine.specs.State.{Ended, State, start}
 use Rattle.nr_machine.specs.declared.outcome.Outcome as machine
 use Rattle.nr_machine.specs.declared.outcome.Outcome.TheVariants as machines
-use Rattle.document_stages.specs.Joined.{behind}
+use Rattle.document_stages.specs.Joined.{preceded}
 use Rattle.document_printing.specs.declared.setup.Outcome.{Outcome}
-use Rattle.document_printing.specs.Document.{Prints, Ran, Setting, TellsWrites, read_after, tables_of, told}
+use Rattle.document_printing.specs.Document.{Prints, Ran, Setting, TellsWrites, read_after, tables_of, reported}
 
 -- ---- what went out
 
@@ -22,8 +22,8 @@ text-one : (pages : List Ended) (page : Ended) → text (pages ++ page ∷ []) �
 text-one pages page = flat_map-append bytes_of pages (page ∷ []) ∙ ap (λ z. text pages ++ z) (append-nil (bytes_of page))
 
 -- a front of what the next move makes of the pages
-next_front : (s : State) (held new : Option (List ℕ)) → run.BreaksOff s held new → AppendsPrefix held new (text (step s).pages)
-next_front s held new b =
+next_prefix : (s : State) (held new : Option (List ℕ)) → run.BreaksOff s held new → AppendsPrefix held new (text (step s).pages)
+next_prefix s held new b =
     subst (λ (z : List ℕ). AppendsPrefix held new z) (sym (text-one s.pages b.page) ∙ sym (ap text b.ends))
     (AppendsPrefix-after held b.between new (text s.pages) (bytes_of b.page) b.ended b.prefix)
 
@@ -34,22 +34,22 @@ ran s source n ended held new a = record { runs = a.runs; allowed = a.allowed; e
 
 -- what the formatter answered is how the document ends
 pub prints-of : (s : Setting) (source : Supply) (n : ℕ) (ended : machine.Outcome) (full : Bool) (held new : Option (List ℕ))
-    → (full ≡ true → s.sets ≡ true) → Answers s.limits (start s.limits s.options source) n ended held new → Prints s source n (told ended full) held new
+    → (full ≡ true → s.sets ≡ true) → Answers s.limits (start s.limits s.options source) n ended held new → Prints s source n (reported ended full) held new
 prints-of s source n machines.Done full held new sets a = record { ran = ran s source n machines.Done held new a; out = a.writes }
 prints-of s source n (machines.Limit which at) full held new sets a = record { ran = ran s source n (machines.Limit which at) held new a; out = a.writes }
 prints-of s source n (machines.ReadFault at) true held new sets a = (sets refl, a.writes)
 prints-of s source n (machines.ReadFault at) false held new sets a = a.writes
 prints-of s source n machines.TooLong full held new sets a = a.writes
-prints-of s source n machines.WriteFault full held new sets a = next_front (state_after n (start s.limits s.options source)) held new a.writes
+prints-of s source n machines.WriteFault full held new sets a = next_prefix (state_after n (start s.limits s.options source)) held new a.writes
 
 -- over macros and a text of the page whose tables are set, or not
 pub prints-read : (s : Setting) (sets : Bool) (page : Supply) (n : ℕ) (ended : machine.Outcome) (full : Bool) (held new : Option (List ℕ))
     → s.sets ≡ sets → (full ≡ true → sets ≡ true)
-    → Answers s.limits (start s.limits s.options (behind s.macros (tables_of sets s.tables page))) n ended held new
-    → Prints s (read_after s page) n (told ended full) held new
+    → Answers s.limits (start s.limits s.options (preceded s.macros (tables_of sets s.tables page))) n ended held new
+    → Prints s (read_after s page) n (reported ended full) held new
 prints-read s sets page n ended full held new is some a =
-    subst (λ (b : Bool). Prints s (behind s.macros (tables_of b s.tables page)) n (told ended full) held new) (sym is)
-    (prints-of s (behind s.macros (tables_of sets s.tables page)) n ended full held new (λ e. is ∙ some e) a)
+    subst (λ (b : Bool). Prints s (preceded s.macros (tables_of b s.tables page)) n (reported ended full) held new) (sym is)
+    (prints-of s (preceded s.macros (tables_of sets s.tables page)) n ended full held new (λ e. is ∙ some e) a)
 
 -- the same moves and the same outcome
 pub prints-at : (s : Setting) (source : Supply) (n m : ℕ) (o p : Outcome) (held new : Option (List ℕ))
@@ -61,7 +61,7 @@ prints-at s source n m o p held new moves outcome prints =
 -- ---- faults of the output
 
 tells : (ended : machine.Outcome) (full : Bool) (before after : SinkFailures) → after ≡ put_counted_if (run.is_write_fault ended) before
-    → TellsWrites (told ended full) before.puts after.puts
+    → TellsWrites (reported ended full) before.puts after.puts
 tells machines.Done full before after failed = ap (λ (f : SinkFailures). f.puts) failed
 tells (machines.Limit which at) full before after failed = ap (λ (f : SinkFailures). f.puts) failed
 tells (machines.ReadFault at) true before after failed = ap (λ (f : SinkFailures). f.puts) failed
@@ -69,7 +69,7 @@ tells (machines.ReadFault at) false before after failed = tt
 tells machines.TooLong full before after failed = tt
 tells machines.WriteFault full before after failed = ap (λ (f : SinkFailures). f.puts) failed
 
-pub tells-of : (ended : machine.Outcome) (full : Bool) (o : Outcome) (before after : SinkFailures) → o ≡ told ended full
+pub tells-of : (ended : machine.Outcome) (full : Bool) (o : Outcome) (before after : SinkFailures) → o ≡ reported ended full
     → after ≡ put_counted_if (run.is_write_fault ended) before → TellsWrites o before.puts after.puts
 tells-of ended full o before after is failed =
     subst (λ (x : Outcome). TellsWrites x before.puts after.puts) (sym is) (tells ended full before after failed)

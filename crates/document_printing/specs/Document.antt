@@ -14,7 +14,7 @@ use Rattle.nr_machine.specs.Run.{Ends, Runs, moves_a_byte}
 use Rattle.nr_machine.specs.State.{State, start}
 use Rattle.nr_machine.specs.declared.outcome.Outcome as machine
 use Rattle.nr_machine.specs.declared.outcome.Outcome.TheVariants as machines
-use Rattle.document_stages.specs.Joined.{behind}
+use Rattle.document_stages.specs.Joined.{preceded}
 use Rattle.document_stages.specs.Pulling.{broken_off}
 use Rattle.document_printing.specs.declared.setup.Outcome.{Outcome}
 use Rattle.document_printing.specs.declared.setup.Outcome.TheVariants as outcomes
@@ -42,7 +42,7 @@ pub record Setting : Type 0 where
 
 -- what the machine reads where it reads this text of a page: the macros, and then that with its tables set
 abbrev pub read_after : Setting → Supply → Supply
-read_after s page = behind s.macros (tables_of s.sets s.tables page)
+read_after s page = preceded s.macros (tables_of s.sets s.tables page)
 
 -- WHAT THE MACHINE READS of a page, macros ++ tables (characters (mdoc page)): it fails where the page does
 abbrev pub source_of : Setting → Supply → Supply
@@ -106,10 +106,10 @@ setting_of setup tables limits = record {
 }
 
 -- how the formatter's end is told of a page whose tables have no room, or have
-abbrev pub told : machine.Outcome → Bool → Outcome
-told machines.Done full = outcomes.Done
-told (machines.Limit which at) full = outcomes.Limit which at
-told (machines.ReadFault at) true = outcomes.NoRoom
-told (machines.ReadFault at) false = outcomes.ReadFault
-told machines.TooLong full = outcomes.TooLong
-told machines.WriteFault full = outcomes.WriteFault
+abbrev pub reported : machine.Outcome → Bool → Outcome
+reported machines.Done full = outcomes.Done
+reported (machines.Limit which at) full = outcomes.Limit which at
+reported (machines.ReadFault at) true = outcomes.NoRoom
+reported (machines.ReadFault at) false = outcomes.ReadFault
+reported machines.TooLong full = outcomes.TooLong
+reported machines.WriteFault full = outcomes.WriteFault

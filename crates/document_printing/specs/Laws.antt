@@ -19,7 +19,7 @@ is_whole outcomes.NoRoom = true
 is_whole outcome = false
 
 -- a text for a terminal, or a prefix of one
-pub record IsFrontOfText (escapes : Bool) (bytes : List ℕ) : Type 0 where
+pub record IsPrefixOfText (escapes : Bool) (bytes : List ℕ) : Type 0 where
   pub rest : List ℕ
   pub text : IsText escapes (bytes ++ rest)
 
@@ -32,7 +32,7 @@ ReachesTerminal = (s : Setting) (table : Table) (escapes : Bool) (source : Suppl
 -- where the terminal failed, a prefix of such a text did
 abbrev pub CutReachesTerminal : Type 0
 CutReachesTerminal = (s : Setting) (table : Table) (escapes : Bool) (source : Supply) (n : ℕ) (bytes : List ℕ)
-    → Shows s (Utf8 (Fixed table) escapes) source n outcomes.WriteFault (Some []) (Some bytes) → IsFrontOfText escapes bytes
+    → Shows s (Utf8 (Fixed table) escapes) source n outcomes.WriteFault (Some []) (Some bytes) → IsPrefixOfText escapes bytes
 
 -- Its lines are those of the pages: each has as many cells, with the same characters.
 abbrev pub LinesStay : Type 0

@@ -36,10 +36,10 @@ pub record IsShown (s : Setting) (spelling : Spelling) (source : Supply) (n : �
   pub out : Appends held new (document s spelling source n)
 
 -- Where the output fails, a prefix of the document went out, after so many moves or one more.
-pub record IsFront (s : Setting) (spelling : Spelling) (source : Supply) (n : ℕ) (held new : Option (List ℕ)) : Type 0 where
+pub record IsPrefix (s : Setting) (spelling : Spelling) (source : Supply) (n : ℕ) (held new : Option (List ℕ)) : Type 0 where
   pub made : ℕ
   pub few : made ≤ suc n
-  pub front : AppendsPrefix held new (document s spelling source made)
+  pub prefix : AppendsPrefix held new (document s spelling source made)
 
 -- HOW IT ENDS for a reader
 abbrev pub Shows : Setting → Spelling → Supply → ℕ → Outcome → Option (List ℕ) → Option (List ℕ) → Type 0
@@ -49,7 +49,7 @@ Shows s spelling source n (outcomes.Limit which at) held new =
 Shows s spelling source n outcomes.NoRoom held new = (s.sets ≡ true) × Appends held new (document s spelling source n)
 Shows s spelling source n outcomes.ReadFault held new = AppendsPrefix held new (document s spelling source n)
 Shows s spelling source n outcomes.TooLong held new = AppendsPrefix held new (document s spelling source n)
-Shows s spelling source n outcomes.WriteFault held new = IsFront s spelling source n held new
+Shows s spelling source n outcomes.WriteFault held new = IsPrefix s spelling source n held new
 
 -- how an end is told of a page whose characters did not all go out: that its input failed first
 abbrev pub cut_short : Outcome → Outcome
@@ -58,6 +58,6 @@ cut_short outcomes.TooLong = outcomes.TooLong
 cut_short outcome = outcomes.WriteFault
 
 -- how an end is told of a page whose characters went out, or the output failed
-abbrev pub told_shown : Outcome → Bool → Outcome
-told_shown outcome false = outcome
-told_shown outcome true = cut_short outcome
+abbrev pub reported_shown : Outcome → Bool → Outcome
+reported_shown outcome false = outcome
+reported_shown outcome true = cut_short outcome

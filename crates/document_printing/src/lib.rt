@@ -1,14 +1,14 @@
 //! A whole page in one program: what the formatter reads of it is formatted after macros.
 //!
 //! It stands on document_reader, document_stages, mdoc_converter, tbl_stage, tbl_setting, nr_engine, nr_machine, nr_options, utf8_converter, utf8_own_sink,
-//! utf8_own_characters, utf8_characters, nr_vectors and nr_units. To read: `setup`, `front`; `pulling`, `setting`, `printing`; `showing`, `laws`.
+//! utf8_own_characters, utf8_characters, nr_vectors and nr_units. To read: `setup`, `prefix`; `pulling`, `setting`, `printing`; `showing`, `laws`.
 //!
 //! Proved: A write fault is reported where a put failed, and none failed where all went out. (`write_faults` of
 //! `print` and `print_shown`)
 #![tactic(auto)]
 
-mod front;
 mod laws;
+mod prefix;
 mod printing;
 mod pulling;
 mod setting;
@@ -16,8 +16,8 @@ mod setup;
 mod showing;
 
 pub use document_reader::Stages;
-pub use front::{Front, has_tables, hold};
 pub use laws::{lines_stay, reaches_terminal};
+pub use prefix::{Prefixed, has_tables, hold};
 pub use printing::print;
 pub use setup::{Outcome, Report, Setup};
 pub use showing::{PageTable, Showing, Spelling, print_shown};

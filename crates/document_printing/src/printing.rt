@@ -16,8 +16,8 @@ use tbl_setting::Complaint;
 use tbl_stage::Rooms;
 
 /// How the formatter's end is told of a page whose tables have no room, or have.
-fn told(outcome: nr_engine::Outcome, full: bool) -> Outcome
-    ensures { result ≡ specs.told outcome full }
+fn reported(outcome: nr_engine::Outcome, full: bool) -> Outcome
+    ensures { result ≡ specs.reported outcome full }
 {
     match outcome {
         nr_engine::Outcome::Done => Outcome::Done,
@@ -36,11 +36,11 @@ fn told(outcome: nr_engine::Outcome, full: bool) -> Outcome
 
 /// What the formatter came to is told.
 fn report_of(pulled: Pulled) -> Report
-    ensures outcome { result.outcome ≡ specs.told pulled.outcome pulled.tables.full }
+    ensures outcome { result.outcome ≡ specs.reported pulled.outcome pulled.tables.full }
     ensures moves { result.moves ≡ pulled.moves }
 {
     Report {
-        outcome: told(pulled.outcome, pulled.tables.full),
+        outcome: reported(pulled.outcome, pulled.tables.full),
         line: pulled.line,
         moves: pulled.moves,
         complaints: pulled.tables.complaints,

@@ -4,7 +4,7 @@ ghost use Rattle.nr_units.specs.Failures.{put_counted_if};
 ghost use Rattle.nr_units.specs.Source.{After, Supply};
 ghost use Rattle.nr_machine.specs.Run.{Answers, is_write_fault};
 ghost use Rattle.nr_machine.specs.State.{start};
-ghost use Rattle.document_stages.specs.Joined.{behind};
+ghost use Rattle.document_stages.specs.Joined.{preceded};
 ghost use Rattle.document_stages.specs.Pulling.{broken_off};
 ghost use Rattle.document_reader.specs.Page.{IsShort, breaks_off, man_of, man_so_far, plain_so_far, plain_supply};
 ghost use Rattle.tbl_stage.specs.Text.{bounds_in, set_text};
@@ -31,13 +31,13 @@ pub(crate) fn pull_set<R: Source + Drop, W: Sink>(
     // What is formatted is the composition of the stages.
     ensures whole { (q : Supply) → R.supply input ≡ Some q → breaks_off q.faults ≡ false →
         IsShort q.bytes (man_of setup.now.stages.mdoc q.bytes) →
-        Answers desk.old (start desk.old setup.now.options.now (behind setup.now.macros.now
+        Answers desk.old (start desk.old setup.now.options.now (preceded setup.now.macros.now
         (set_text (bounds_in rooms.old) (plain_supply setup.now.stages setup.now.characters q))))
         result.moves result.outcome (W.held output.old) (W.held output.new) }
     // Where the source fails after so many bytes, it is that of these, but for what is half read.
     ensures cut { (q : Supply) → (n : ℕ) → R.supply input ≡ Some q → q.faults ≡ After n → n ≤ length q.bytes →
         IsShort q.bytes (man_so_far setup.now.stages.mdoc (take n q.bytes)) →
-        Answers desk.old (start desk.old setup.now.options.now (behind setup.now.macros.now
+        Answers desk.old (start desk.old setup.now.options.now (preceded setup.now.macros.now
         (set_text (bounds_in rooms.old) (broken_off (plain_so_far setup.now.stages setup.now.characters (take n q.bytes))))))
         result.moves result.outcome (W.held output.old) (W.held output.new) }
     ensures write_faults { W.failures output.new ≡ put_counted_if (is_write_fault result.outcome) (W.failures output.old) }

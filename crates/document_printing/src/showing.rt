@@ -67,7 +67,7 @@ fn cut_short(outcome: Outcome) -> Outcome
 
 /// What is reported of a page that was printed, where the output failed or not.
 fn report_shown(printed: Report, failed: bool) -> Report
-    ensures outcome { result.outcome ≡ specs.told_shown printed.outcome failed }
+    ensures outcome { result.outcome ≡ specs.reported_shown printed.outcome failed }
     ensures moves { result.moves ≡ printed.moves }
 {
     if !failed {
@@ -134,8 +134,8 @@ pub fn print_shown<R: Source + Drop, W: Sink>(
                 let made = print(input, &showing.setup, rooms, complaints, desk, &mut letters);
                 let (below, end) = letters.finish();
                 let is_cut = end.is_err();
-                let told = report_shown(made, is_cut);
-                (below, told)
+                let reported = report_shown(made, is_cut);
+                (below, reported)
             }
         },
     }

@@ -69,19 +69,19 @@ man-whole : (on : Bool) (page : List ℕ) → says_if on (mdoc_part.said mdoc.fi
 man-whole true page = refl
 man-whole false page = refl
 
-man-front : (on : Bool) (page : List ℕ) → says_if on (mdoc_part.said mdoc.first_state) false page ≡ man_so_far on page
-man-front true page = refl
-man-front false page = refl
+man-prefix : (on : Bool) (page : List ℕ) → says_if on (mdoc_part.said mdoc.first_state) false page ≡ man_so_far on page
+man-prefix true page = refl
+man-prefix false page = refl
 
 characters-whole : (on : Bool) (table : Target) (page : List ℕ)
     → says_if on (preconv_part.said (preconv.first_reader table)) true page ≡ characters_of on table page
 characters-whole true table page = refl
 characters-whole false table page = refl
 
-characters-front : (on : Bool) (table : Target) (page : List ℕ)
+characters-prefix : (on : Bool) (table : Target) (page : List ℕ)
     → says_if on (preconv_part.said (preconv.first_reader table)) false page ≡ characters_so_far on table page
-characters-front true table page = refl
-characters-front false table page = refl
+characters-prefix true table page = refl
+characters-prefix false table page = refl
 
 -- ---- two stages
 
@@ -106,9 +106,9 @@ piped-cut q n stages table after l h =
     ap (λ (f : Faults). piped (Some (record { bytes = q.bytes; faults = f })) stages table) after
     ∙ ap (λ (x : Option Supply). pulled x true (says_if stages.characters (preconv_part.said (preconv.first_reader table))) (fits_if stages.characters fits_always) [] 0 false)
     (cut-pulled q.bytes n (says_if stages.mdoc (mdoc_part.said mdoc.first_state)) (fits_if stages.mdoc fits_always) h.page_is l
-    ∙ ap (λ (z : List ℕ). Some (broken_off z)) (man-front stages.mdoc (take n q.bytes)))
+    ∙ ap (λ (z : List ℕ). Some (broken_off z)) (man-prefix stages.mdoc (take n q.bytes)))
     ∙ broken-pulled (man_so_far stages.mdoc (take n q.bytes)) (says_if stages.characters (preconv_part.said (preconv.first_reader table))) (fits_if stages.characters fits_always) h.man_is
-    ∙ ap (λ (z : List ℕ). Some (broken_off z)) (characters-front stages.characters table (man_so_far stages.mdoc (take n q.bytes)))
+    ∙ ap (λ (z : List ℕ). Some (broken_off z)) (characters-prefix stages.characters table (man_so_far stages.mdoc (take n q.bytes)))
 
 -- ---- what two stages are over, by what each of them says of itself
 

@@ -156,12 +156,12 @@ pub Came-pushed : (known : Option Texts) (a b : Option Supply) (room room' : ℕ
     → s' ≡ after_byte (byte == code "\n") full s
     → Stays (joined_supply known a room s line) (joined_supply known b room' s' line')
 Came-pushed known a b room room' s s' line line' byte full reads gives line_is room_is full_is s_is =
-    let told : full ≡ (length (line ++ byte ∷ []) == room) =
+    let omissions : full ≡ (length (line ++ byte ∷ []) == room) =
     full_is ∙ ap (λ (xs : List ℕ). length xs == room') line_is ∙ ap (λ (k : ℕ). length (line ++ byte ∷ []) == k) room_is in
     let same : joined_supply known b room' s' line'
     ≡ joined_supply known b room (after_byte (byte == code "\n") (length (line ++ byte ∷ []) == room) s) (line ++ byte ∷ []) =
     ap (λ (k : ℕ). joined_supply known b k s' line') room_is
-    ∙ ap (λ (t : Standing). joined_supply known b room t line') (s_is ∙ ap (λ (f : Bool). after_byte (byte == code "\n") f s) told)
+    ∙ ap (λ (t : Standing). joined_supply known b room t line') (s_is ∙ ap (λ (f : Bool). after_byte (byte == code "\n") f s) omissions)
     ∙ ap (λ (xs : List ℕ). joined_supply known b room (after_byte (byte == code "\n") (length (line ++ byte ∷ []) == room) s) xs) line_is in
     subst (λ (z : Option Supply). Stays (joined_supply known a room s line) z) (sym same) (Came-byte known a b room s line byte reads gives)
 

@@ -6,7 +6,7 @@ ghost use Rattle.document_sources.specs.Joining.{Follows, after_byte, going_out,
 use super::ahead::Ahead;
 use super::folder::{Folder, Found, Why};
 use super::names::so_name;
-use super::told::Told;
+use super::omissions::Omissions;
 use std::alloc::AllocError;
 
 /// What is done with a line.
@@ -105,7 +105,7 @@ pub(crate) fn follow<F: Folder>(
     name: &[u8],
     standing: Standing,
     ahead: &mut Ahead,
-    told: &mut Told<'_>,
+    omissions: &mut Omissions<'_>,
 ) -> Result<Standing, AllocError>
     ensures texts { F.texts folder.new ≡ F.texts folder.old }
     ensures follows { IfOk result (λ next. Follows (F.texts folder.old) name.now standing next
@@ -113,7 +113,7 @@ pub(crate) fn follow<F: Folder>(
     ensures stays { OnErr result (drop ahead.new.taken ahead.new.text.items ≡ drop ahead.old.taken ahead.old.text.items) }
 {
     if standing.files == 0 {
-        told.leave_out(Why::TooMany);
+        omissions.leave_out(Why::TooMany);
         return Ok(standing.line_begun(true));
     }
     let mut text = Vec::new(ahead.alloc);
@@ -121,7 +121,7 @@ pub(crate) fn follow<F: Folder>(
     let count = text.len();
     ahead.put(text)?;
     if let Found::Not(why) = found {
-        told.leave_out(why);
+        omissions.leave_out(why);
     }
     let next = Standing {
         files: standing.files - 1,

@@ -9,7 +9,7 @@ ghost use Rattle.document_sources.specs.Joining.{coming, followed, is_line_byte}
 use super::ahead::Ahead;
 use super::folder::Folder;
 use super::following::{Phase, Standing, follow, named};
-use super::told::Told;
+use super::omissions::Omissions;
 use nr_units::source::{Fault, Source, next_count};
 use nr_vectors::slice_vec::SliceVec;
 use std::alloc::Global;
@@ -31,7 +31,7 @@ pub struct Joining<'a, R, F> {
     ahead: Ahead,
     line: SliceVec<'a, u8>,
     standing: Standing,
-    told: Told<'a>,
+    omissions: Omissions<'a>,
     failed: u64,
 }
 
@@ -39,7 +39,7 @@ pub struct Joining<'a, R, F> {
 fn take_byte<R: Source>(
     ahead: &mut Ahead,
     input: &mut R,
-    told: &mut Told<'_>,
+    omissions: &mut Omissions<'_>,
 ) -> Result<Option<u8>, Fault>
     ensures { Gives (coming (drop ahead.old.taken ahead.old.text.items) (R.supply input.old)) result
         (coming (drop ahead.new.taken ahead.new.text.items) (R.supply input.new)) }
@@ -49,7 +49,7 @@ fn take_byte<R: Source>(
     }
     match input.next() {
         Ok(Some(byte)) => {
-            told.count(byte);
+            omissions.count(byte);
             Ok(Some(byte))
         }
         Ok(None) => Ok(None),
@@ -83,7 +83,7 @@ impl<'a, R: Source, F: Folder> Joining<'a, R, F> {
         folder: F,
         limits: Limits,
         room: &'a mut [u8],
-        told: Told<'a>,
+        omissions: Omissions<'a>,
         alloc: Global,
     ) -> Self
         ensures supply { ⟦<Joining<'a, R, F> as Source>⟧.supply result
@@ -102,7 +102,7 @@ impl<'a, R: Source, F: Folder> Joining<'a, R, F> {
                 files: limits.files,
                 left: limits.bytes,
             },
-            told,
+            omissions,
             failed: 0,
         }
     }
@@ -123,7 +123,7 @@ impl<'a, R: Source, F: Folder> Joining<'a, R, F> {
         let count = run_len(window, room.saturating_sub(1));
         if count > 0 {
             self.line.extend(&window[..count]);
-            self.told.count(b' ');
+            self.omissions.count(b' ');
             self.input.skip(count);
         }
     }
@@ -140,7 +140,7 @@ impl<'a, R: Source, F: Folder> Joining<'a, R, F> {
         if self.line.is_full() {
             return Err(Fault);
         }
-        match take_byte(&mut self.ahead, &mut self.input, &mut self.told)? {
+        match take_byte(&mut self.ahead, &mut self.input, &mut self.omissions)? {
             Some(byte) => {
                 self.line.push(byte);
                 let full = self.line.is_full();
@@ -173,7 +173,7 @@ impl<'a, R: Source, F: Folder> Joining<'a, R, F> {
             name,
             self.standing,
             &mut self.ahead,
-            &mut self.told,
+            &mut self.omissions,
         ) {
             Ok(next) => {
                 self.standing = next;

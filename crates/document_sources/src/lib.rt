@@ -1,6 +1,6 @@
 //! Texts that name others: a line `.so NAME` is followed within a folder, and nowhere else.
 //!
-//! It stands on nr_units, nr_vectors and document_stages. To read: `names`; `places`, `folder`, `inside`; `told`, `ahead`,
+//! It stands on nr_units, nr_vectors and document_stages. To read: `names`; `places`, `folder`, `inside`; `omissions`, `ahead`,
 //! `following`, `joining`.
 #![tactic(auto)]
 
@@ -10,12 +10,12 @@ mod following;
 mod inside;
 mod joining;
 mod names;
+mod omissions;
 mod places;
-mod told;
 
 pub use folder::{Folder, Found, Why};
 pub use inside::Inside;
 pub use joining::{Joining, Limits};
 pub use names::{is_inner, so_name};
+pub use omissions::{LeftOut, Omissions};
 pub use places::{Places, System};
-pub use told::{LeftOut, Told};

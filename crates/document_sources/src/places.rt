@@ -51,8 +51,8 @@ impl<R: Files> Places for System<'_, R> {
     }
 
     fn open(&mut self, path: &str) -> io::Result<R::File> {
-        if let Ok(told) = fs::metadata(self.files, path)
-            && !told.is_file()
+        if let Ok(file) = fs::metadata(self.files, path)
+            && !file.is_file()
         {
             return Err(io::Error::from(ErrorKind::InvalidInput));
         }

@@ -39,12 +39,12 @@ Came-skip None b window n l o s = tt
 Came-skip (Some q) None window n l o s = absurd (let no : None ≡ Some (skipped n q) = s in cc)
 Came-skip (Some q) (Some t) window n l o s =
     let is : t ≡ skipped n q = some-injective t (skipped n q) s in
-    let front : take n window ≡ take n q.bytes =
+    let prefix : take n window ≡ take n q.bytes =
     ap (λ (ys : List ℕ). take n ys) (sym o.0) ∙ take-take n (length window) q.bytes l in
     let rest : t.bytes ≡ drop n q.bytes = ap (λ (x : Supply). x.bytes) is in
     let count : length (take n window) ≡ n = (let cut = length-take n window in omega (arith, cut, l)) in
     let faults : t.faults ≡ later n q.faults = ap (λ (x : Supply). x.faults) is in (
-      rw (front, rest) (sym (take-append-drop n q.bytes)),
+      rw (prefix, rest) (sym (take-append-drop n q.bytes)),
       subst (λ k. t.faults ≡ later k q.faults) (sym count) faults,
       subst (λ k. MayGiveAll k q.faults) (sym count) (may-fewer q.faults n (length window) l o.1),
     )

@@ -8,12 +8,12 @@ after_more n Never = Never
 after_more n (After m) = After (n + m)
 after_more n Anytime = Anytime
 
-abbrev pub behind : List ℕ → Supply → Supply
-behind first q = record { bytes = first ++ q.bytes; faults = after_more (length first) q.faults }
+abbrev pub preceded : List ℕ → Supply → Supply
+preceded first q = record { bytes = first ++ q.bytes; faults = after_more (length first) q.faults }
 
 abbrev pub joined : List ℕ → Option Supply → Option Supply
 joined first None = None
-joined first (Some q) = Some (behind first q)
+joined first (Some q) = Some (preceded first q)
 
 abbrev pub first_at_hand : List ℕ → List ℕ → List ℕ
 first_at_hand [] others = others

@@ -80,9 +80,9 @@ TellsReads WriteFault before later = (later ≡ before) ⊎ (later ≡ next_coun
 -- ---- on the way
 
 -- what a sink took of bytes at an error
-abbrev pub FrontAtErr : {T E : Type 0} → Result T E → Option (List ℕ) → Option (List ℕ) → List ℕ → Type 0
-FrontAtErr (Ok x) held new bytes = Unit {0}
-FrontAtErr (Err e) held new bytes = AppendsPrefix held new bytes
+abbrev pub PrefixAtErr : {T E : Type 0} → Result T E → Option (List ℕ) → Option (List ℕ) → List ℕ → Type 0
+PrefixAtErr (Ok x) held new bytes = Unit {0}
+PrefixAtErr (Err e) held new bytes = AppendsPrefix held new bytes
 
 -- a prefix of what waits went out, and the rest is left
 pub record Flushes (held new : Option (List ℕ)) (waits left : List ℕ) : Type 0 where

@@ -33,7 +33,7 @@ pub enum Outcome {
 /// All that waits goes out.
 fn put_waiting<W: Sink>(out: &mut SliceVec<'_, u8>, output: &mut W) -> Result<(), Fault>
     ensures ok { OnOk result (Appends (W.held output.old) (W.held output.new) out.old.items) }
-    ensures err { specs.FrontAtErr result (W.held output.old) (W.held output.new) out.old.items }
+    ensures err { specs.PrefixAtErr result (W.held output.old) (W.held output.new) out.old.items }
     ensures empty { OnOk result (out.new.items ≡ []) }
     ensures failures { W.failures output.new ≡ put_counted (W.failures output.old) result }
     ensures room { out.new.capacity ≡ out.old.capacity }
@@ -48,7 +48,7 @@ fn make_room<W: Sink>(out: &mut SliceVec<'_, u8>, output: &mut W, wants: usize) 
     requires { wants ≤ out.old.capacity }
     ensures ok { OnOk result (specs.Flushes (W.held output.old) (W.held output.new) out.old.items
         out.new.items) }
-    ensures err { specs.FrontAtErr result (W.held output.old) (W.held output.new) out.old.items }
+    ensures err { specs.PrefixAtErr result (W.held output.old) (W.held output.new) out.old.items }
     ensures fits { OnOk result (length out.new.items + wants ≤ out.new.capacity) }
     ensures failures { W.failures output.new ≡ put_counted (W.failures output.old) result }
     ensures room { out.new.capacity ≡ out.old.capacity }

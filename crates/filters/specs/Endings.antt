@@ -21,30 +21,30 @@ status_of WriteFault = 4
 status_of OutOfMemory = 5
 
 -- a line of a program
-abbrev pub told : List ℕ → List ℕ → List ℕ → List ℕ
-told program what word = concat (program ∷ codes ": " ∷ what ∷ word ∷ codes "\n" ∷ [])
+abbrev pub reported : List ℕ → List ℕ → List ℕ → List ℕ
+reported program what word = concat (program ∷ codes ": " ∷ what ∷ word ∷ codes "\n" ∷ [])
 
 -- a line about the text of this name
-abbrev pub told_named : List ℕ → List ℕ → List ℕ → List ℕ → List ℕ
-told_named program name what word =
+abbrev pub reported_named : List ℕ → List ℕ → List ℕ → List ℕ → List ℕ
+reported_named program name what word =
     concat (program ∷ codes ": " ∷ name ∷ codes ": " ∷ what ∷ word ∷ codes "\n" ∷ [])
 
 -- a line about a text, by its name or without
-abbrev pub told_of : List ℕ → Option (Bor (List ℕ)) → List ℕ → List ℕ → List ℕ
-told_of program None what word = told program what word
-told_of program (Some name) what word = told_named program name.now what word
+abbrev pub reported_of : List ℕ → Option (Bor (List ℕ)) → List ℕ → List ℕ → List ℕ
+reported_of program None what word = reported program what word
+reported_of program (Some name) what word = reported_named program name.now what word
 
 -- the line that reports how a program ended: nothing where all went out
 abbrev pub line_of : List ℕ → Ending → List ℕ
 line_of program Done = []
 line_of program Complained = []
-line_of program (TooLong name) = told_of program name (codes "input too long") []
-line_of program (ReadFault name at) = told_of program name (codes "read fault at byte ") (decimal at)
-line_of program WriteFault = told program (codes "write fault") []
-line_of program (BadWord what word) = told program what.now word.now
-line_of program (CannotOpen name) = told program (codes "cannot open ") name.now
-line_of program (CannotRead name) = told program (codes "cannot read ") name.now
-line_of program OutOfMemory = told program (codes "out of memory") []
+line_of program (TooLong name) = reported_of program name (codes "input too long") []
+line_of program (ReadFault name at) = reported_of program name (codes "read fault at byte ") (decimal at)
+line_of program WriteFault = reported program (codes "write fault") []
+line_of program (BadWord what word) = reported program what.now word.now
+line_of program (CannotOpen name) = reported program (codes "cannot open ") name.now
+line_of program (CannotRead name) = reported program (codes "cannot read ") name.now
+line_of program OutOfMemory = reported program (codes "out of memory") []
 
 -- A line was written whole, or a prefix of it went out where a call failed. The counts are those of the failed
 -- calls before and after.

@@ -131,12 +131,12 @@ pub record IsRun (asks : Job → Type 0) (may_come : List ℕ → Opening → Ty
 -- The status of a program and its last line report the ending that it came to. Lines about texts stand before that
 -- line; where no text was read there are none.
 pub record Ends (asks : Job → Type 0) (may_come : List ℕ → Opening → Type 0) (asked asked' : Option (List (List ℕ)))
-    (held new : Option (List ℕ)) (writes writes' : SinkFailures) (passed_on : Bool) (told told' : Option (List ℕ))
+    (held new : Option (List ℕ)) (writes writes' : SinkFailures) (passed_on : Bool) (reported reported' : Option (List ℕ))
     (untold untold' : SinkFailures) (program : List ℕ) (status : ℕ) : Type 0 where
   pub ending : Ending
   pub run : IsRun asks may_come asked asked' held new writes writes' passed_on ending
   pub about_texts : Option (List ℕ)
   pub untold_before : SinkFailures
-  pub quiet : is_unread ending ≡ true → (about_texts ≡ told) × (untold_before ≡ untold)
+  pub quiet : is_unread ending ≡ true → (about_texts ≡ reported) × (untold_before ≡ untold)
   pub status_is : status ≡ status_of ending
-  pub line : Tells about_texts told' untold_before untold' (line_of program ending)
+  pub line : Tells about_texts reported' untold_before untold' (line_of program ending)

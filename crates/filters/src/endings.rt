@@ -1,6 +1,6 @@
 // How a program ended: its status, and the line that reports it.
 ghost use Rattle.std.specs.Prelude.{◌≡◌};
-ghost use Rattle.filters.specs.Endings.{Tells, line_of, status_of, told, told_named, told_of};
+ghost use Rattle.filters.specs.Endings.{Tells, line_of, status_of, reported, reported_named, reported_of};
 
 use super::lines::put_all;
 use itoa::Buffer;
@@ -46,7 +46,7 @@ fn status(ending: Ending<'_>) -> u8
 /// Writes a line of the program, with a word at its end, as far as `errors` takes it.
 fn put_line<E: Sink>(program: &str, what: &str, word: &str, errors: &mut E)
     ensures { Tells (E.held errors.old) (E.held errors.new) (E.failures errors.old) (E.failures errors.new)
-        (told program.now what.now word.now) }
+        (reported program.now what.now word.now) }
 {
     let parts = [
         program.as_bytes(),
@@ -61,7 +61,7 @@ fn put_line<E: Sink>(program: &str, what: &str, word: &str, errors: &mut E)
 /// Writes a line about the text of this name.
 fn put_named_line<E: Sink>(program: &str, name: &str, what: &str, word: &str, errors: &mut E)
     ensures { Tells (E.held errors.old) (E.held errors.new) (E.failures errors.old) (E.failures errors.new)
-        (told_named program.now name.now what.now word.now) }
+        (reported_named program.now name.now what.now word.now) }
 {
     let parts = [
         program.as_bytes(),
@@ -78,7 +78,7 @@ fn put_named_line<E: Sink>(program: &str, name: &str, what: &str, word: &str, er
 /// Writes a line about a text, by its name where the program reports it.
 fn put_line_of<E: Sink>(program: &str, name: Option<&str>, what: &str, word: &str, errors: &mut E)
     ensures { Tells (E.held errors.old) (E.held errors.new) (E.failures errors.old) (E.failures errors.new)
-        (told_of program.now name.entry what.now word.now) }
+        (reported_of program.now name.entry what.now word.now) }
 {
     match name {
         Some(name) => put_named_line(program, name, what, word, errors),
@@ -118,7 +118,7 @@ fn put_ending<E: Sink>(program: &str, ending: Ending<'_>, errors: &mut E)
 /// failed; nothing where all went out.
 pub fn tell<E: Sink>(program: &str, ending: Ending<'_>, errors: &mut E) -> u8
     ensures status { result ≡ status_of ending.entry }
-    ensures told { Tells (E.held errors.old) (E.held errors.new) (E.failures errors.old)
+    ensures reported { Tells (E.held errors.old) (E.held errors.new) (E.failures errors.old)
         (E.failures errors.new) (line_of program.now ending.entry) }
 {
     put_ending(program, ending, errors);

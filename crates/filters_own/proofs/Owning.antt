@@ -11,13 +11,13 @@ use Rattle.filters.specs.Turning.{Filter}
 use Rattle.filters.specs.declared.endings.Ending.{Ending}
 use Rattle.filters.specs.declared.endings.Ending.TheVariants.{OutOfMemory}
 use Rattle.filters.proofs.After.{turned-after, unlooked}
-use Rattle.filters_own.specs.Looking.{AreRankedIn, ComesTo, IsFrontIn, IsOf, IsTableIn, LookIsShort, counts_in, front_in}
+use Rattle.filters_own.specs.Looking.{AreRankedIn, ComesTo, IsPrefixIn, IsOf, IsTableIn, LookIsShort, counts_in, prefix_in}
 
 -- what was counted of the first bytes
-pub ranked-in : (left : Option (List ℕ)) (front : List ℕ) (cells : List Count) → IsFrontIn left front
-    → (LookIsShort front → cells ≡ ranked (counts_in true front)) → AreRankedIn left cells
-ranked-in None front cells is ranks = tt
-ranked-in (Some bytes) front cells is ranks = subst (λ (f : List ℕ). LookIsShort f → cells ≡ ranked (counts_in true f)) is ranks
+pub ranked-in : (left : Option (List ℕ)) (prefix : List ℕ) (cells : List Count) → IsPrefixIn left prefix
+    → (LookIsShort prefix → cells ≡ ranked (counts_in true prefix)) → AreRankedIn left cells
+ranked-in None prefix cells is ranks = tt
+ranked-in (Some bytes) prefix cells is ranks = subst (λ (f : List ℕ). LookIsShort f → cells ≡ ranked (counts_in true f)) is ranks
 
 -- and the table of it
 table-in : (left : Option (List ℕ)) (cells : List Count) (table : Characters) → AreRankedIn left cells → IsMadeOf cells table → IsTableIn left table

@@ -8,7 +8,7 @@ use Rattle.utf8_own_characters.specs.declared.counting.Count.{Count}
 use Rattle.utf8_own_characters.specs.Ranking.{ranked}
 use Rattle.utf8_own_characters.specs.Table.{Characters}
 use Rattle.utf8_own_page.specs.Looking.{counts_of}
-use Rattle.utf8_own_page.specs.Needing.{IsTableOf, front_of}
+use Rattle.utf8_own_page.specs.Needing.{IsTableOf, prefix_of}
 use Rattle.filters.specs.Disk.{Asks, IsUnlooked, Opened, Opening, Opens, paths_of}
 use Rattle.filters.specs.Program as programs
 use Rattle.filters.specs.Turning.{Filter}
@@ -17,12 +17,12 @@ use Rattle.filters.specs.declared.endings.Ending.{Ending}
 -- ---- what is read
 
 -- the first MiB of a text
-abbrev pub front_in : List ℕ → List ℕ
-front_in bytes = front_of (text_of bytes)
+abbrev pub prefix_in : List ℕ → List ℕ
+prefix_in bytes = prefix_of (text_of bytes)
 
-abbrev pub IsFrontIn : Option (List ℕ) → List ℕ → Type 0
-IsFrontIn None front = ⊤
-IsFrontIn (Some bytes) front = front ≡ front_in bytes
+abbrev pub IsPrefixIn : Option (List ℕ) → List ℕ → Type 0
+IsPrefixIn None prefix = ⊤
+IsPrefixIn (Some bytes) prefix = prefix ≡ prefix_in bytes
 
 -- the text of this name was opened, and this is of what it gives
 pub record IsOf (may_come : List ℕ → Opening → Type 0) (asked asked' : Option (List (List ℕ))) (name : List ℕ)
@@ -45,28 +45,28 @@ abbrev pub stages : Stages
 stages = record { mdoc = true; characters = true }
 
 abbrev pub looked : List ℕ → List ℕ
-looked front = plain_of stages Utf8 front
+looked prefix = plain_of stages Utf8 prefix
 
 -- what each stage is given has less than 2^40 bytes
-pub record LookIsShort (front : List ℕ) : Type 0 where
-  pub page : IsShort front (man_of true front)
-  pub plain : length (looked front) < 1099511627776
+pub record LookIsShort (prefix : List ℕ) : Type 0 where
+  pub page : IsShort prefix (man_of true prefix)
+  pub plain : length (looked prefix) < 1099511627776
 
 -- what frames are drawn with comes first, where that is asked for
 abbrev pub counts_in : Bool → List ℕ → List Count
-counts_in frames front = counts_of 4352 frames (looked front)
+counts_in frames prefix = counts_of 4352 frames (looked prefix)
 
 -- ---- its table
 
 -- the characters of a table, the most frequent first
 abbrev pub AreRankedIn : Option (List ℕ) → List Count → Type 0
 AreRankedIn None cells = ⊤
-AreRankedIn (Some bytes) cells = LookIsShort (front_in bytes) → cells ≡ ranked (counts_in true (front_in bytes))
+AreRankedIn (Some bytes) cells = LookIsShort (prefix_in bytes) → cells ≡ ranked (counts_in true (prefix_in bytes))
 
 -- THE TABLE OF A FILE has the most frequent characters of what it prints and of what frames are drawn with
 abbrev pub IsTableIn : Option (List ℕ) → Characters → Type 0
 IsTableIn None table = ⊤
-IsTableIn (Some bytes) table = LookIsShort (front_in bytes) → IsTableOf (counts_in true (front_in bytes)) table
+IsTableIn (Some bytes) table = LookIsShort (prefix_in bytes) → IsTableOf (counts_in true (prefix_in bytes)) table
 
 -- Texts are to be turned by what is made of the table of a file.
 pub record AsksForOwn (f : Characters → Filter) (file : List ℕ) (names : List (List ℕ)) (job : programs.Job) : Type 0 where

@@ -6,7 +6,7 @@ ghost use Rattle.utf8_own_characters.specs.Ranking.{ranked};
 ghost use Rattle.filters_own.specs.Looking as specs;
 ghost use Rattle.filters_own.specs.Looking.{AreRankedIn, LookIsShort, ReadsOf};
 
-use super::fronts::{first_of, room_for};
+use super::prefixes::{first_of, room_for};
 use document_reader::{Places, Stages, read_page};
 use document_stages::Text;
 use filters::{BUFFER_SIZE, Disk, Ending, Paths};
@@ -19,8 +19,8 @@ use utf8_own_page::{Cells, counted};
 
 /// Counts what the first bytes of a page print beyond ASCII, after what frames are drawn with, where that is asked for: mdoc(7)
 /// becomes man(7), and characters stay themselves.
-pub fn count_front(alloc: Global, frames: bool, front: &[u8]) -> Result<Vec<Count>, AllocError>
-    ensures items { LookIsShort front.now → IfOk result (λ counts. counts.items ≡ specs.counts_in frames front.now) }
+pub fn count_prefix(alloc: Global, frames: bool, prefix: &[u8]) -> Result<Vec<Count>, AllocError>
+    ensures items { LookIsShort prefix.now → IfOk result (λ counts. counts.items ≡ specs.counts_in frames prefix.now) }
     ensures once { IfOk result (λ counts. is_once counts.items ≡ true) }
 {
     let stages = Stages {
@@ -28,16 +28,16 @@ pub fn count_front(alloc: Global, frames: bool, front: &[u8]) -> Result<Vec<Coun
         characters: true,
     };
     let mut places = Places::new();
-    let text = Text::over(front);
+    let text = Text::over(prefix);
     let mut page = read_page(text, stages, Target::Utf8, places.lend());
     counted(alloc, &mut page, frames)
 }
 
 /// The characters of the table that these bytes make.
-fn cells_of(alloc: Global, front: &[u8]) -> Result<Cells, AllocError>
-    ensures { LookIsShort front.now → IfOk result (λ cells. cells ≡ ranked (specs.counts_in true front.now)) }
+fn cells_of(alloc: Global, prefix: &[u8]) -> Result<Cells, AllocError>
+    ensures { LookIsShort prefix.now → IfOk result (λ cells. cells ≡ ranked (specs.counts_in true prefix.now)) }
 {
-    let counts = count_front(alloc, true, front)?;
+    let counts = count_prefix(alloc, true, prefix)?;
     Cells::of(alloc, &counts)
 }
 
@@ -61,12 +61,12 @@ pub fn look_at<'a, P: Paths, I: Read + Copy + Drop>(
     let Ok(mut room) = room_for(disk.alloc) else {
         return Err(Ending::OutOfMemory);
     };
-    let mut front = SliceVec::over(&mut room);
-    match first_of(name, disk, &mut input, &mut front) {
+    let mut prefix = SliceVec::over(&mut room);
+    match first_of(name, disk, &mut input, &mut prefix) {
         Ok(_) => {}
         Err(ending) => return Err(ending),
     }
-    match cells_of(disk.alloc, front.as_slice()) {
+    match cells_of(disk.alloc, prefix.as_slice()) {
         Ok(cells) => Ok(cells),
         Err(_) => Err(Ending::OutOfMemory),
     }

@@ -3,7 +3,7 @@ use Rattle.std.specs.Prelude.{ℕ, List, [], ◌∷◌, ◌++◌, length, map, B
 use Rattle.std.specs.List.{concat, flat_map}
 use Rattle.std.specs.Str.{bytes_eq}
 use Rattle.mdoc_command.specs.Shown.{shown_byte}
-use Rattle.mdoc_command.specs.Telling.{AllTold}
+use Rattle.mdoc_command.specs.Telling.{AllReported}
 use Rattle.mdoc_command.specs.Watching.{all_heard, finished, first_page}
 use Rattle.mdoc_command.specs.declared.complaints.Parts.{Parts}
 use Rattle.mdoc_command.specs.declared.telling.Complaint.{Complaint}
@@ -85,10 +85,10 @@ more_lines program name missed =
     if missed then concat (program ∷ codes ": " ∷ name ∷ codes ": and more\n" ∷ []) else []
 
 -- THE LINES of a program about the text of this name, of which this is told
-abbrev pub lines_of : List ℕ → List ℕ → AllTold → List ℕ
+abbrev pub lines_of : List ℕ → List ℕ → AllReported → List ℕ
 lines_of program name t =
     flat_map (complaint_line program name) t.complaints.items ++ more_lines program name t.missed
 
 -- What is told of a whole page: of 64 blocks that are open at once, and 64 complaints.
-abbrev pub told_of : List ℕ → AllTold
-told_of page = (finished (all_heard page (first_page 64 64))).told
+abbrev pub reported_of : List ℕ → AllReported
+reported_of page = (finished (all_heard page (first_page 64 64))).reported

@@ -79,8 +79,8 @@ grows b h =
     if length h.name == name_capacity then record h { cut = true } else record h { name = h.name ++ b ∷ [] }
 
 -- the name of a request or a macro is whole
-abbrev pub behind_name : ℕ → Half → Half × Whole
-behind_name b h =
+abbrev pub after_name : ℕ → Half → Half × Whole
+after_name b h =
     if defines h.name then (with_line (body_after b) h, wholes.Nothing) else
     if is_request h.name then (with_line (rest_after b) h, wholes.Nothing) else
     (record h { line = words_after b; calls = is_parsed h.name }, wholes.Macro)
@@ -95,7 +95,7 @@ wakes b h = record h { awake = is_date h && ends_word b }
 abbrev pub in_name : ℕ → Half → Half × Whole
 in_name b h =
     if not (ends_word b) && not (b == code "\\") then (grows b h, wholes.Nothing) else
-    if not h.awake then (with_line (rest_after b) (wakes b h), wholes.Nothing) else behind_name b h
+    if not h.awake then (with_line (rest_after b) (wakes b h), wholes.Nothing) else after_name b h
 
 -- ---- words
 
@@ -153,8 +153,8 @@ closed b h = if b == code "\"" then with_line (lines.Quoted false) h else betwee
 abbrev pub in_body : ℕ → Half → Half
 in_body b h = with_line (if b == code "." then lines.Dot else body_after b) h
 
-abbrev pub behind_dot : ℕ → Half → Half
-behind_dot b h = with_line (if b == code "." then lines.Rest else body_after b) h
+abbrev pub after_dot : ℕ → Half → Half
+after_dot b h = with_line (if b == code "." then lines.Rest else body_after b) h
 
 -- ---- by where the line is read
 
@@ -167,7 +167,7 @@ passed_at (lines.Text escaped) b h = in_text escaped b h
 passed_at (lines.Quoted escaped) b h = in_quotes escaped b h
 passed_at lines.Closed b h = closed b h
 passed_at lines.Body b h = in_body b h
-passed_at lines.Dot b h = behind_dot b h
+passed_at lines.Dot b h = after_dot b h
 passed_at lines.BodyLine b h = with_line (body_after b) h
 passed_at lines.ControlEscape b h = with_line (escape_after b) h
 passed_at lines.Comment b h = with_line (comment_after b) h
@@ -176,11 +176,11 @@ passed_at line b h = with_line (rest_after b) h
 abbrev pub passed : ℕ → Half → Half
 passed b h = passed_at h.line b h
 
-abbrev pub met_at : Line → ℕ → Half → Half × Whole
-met_at lines.Name b h = in_name b h
-met_at lines.Word b h = in_word b h
-met_at lines.Escape b h = in_escape b h
-met_at line b h = (passed b h, wholes.Nothing)
+abbrev pub taken_in_at : Line → ℕ → Half → Half × Whole
+taken_in_at lines.Name b h = in_name b h
+taken_in_at lines.Word b h = in_word b h
+taken_in_at lines.Escape b h = in_escape b h
+taken_in_at line b h = (passed b h, wholes.Nothing)
 
 -- empty lines and comments are not counted among the first
 abbrev pub is_looked_at : Line → Bool
@@ -207,8 +207,8 @@ abbrev pub is_unread : ℕ → Half → Bool
 is_unread b h = is_unwatched h || (not (b == code "\n") && is_passed h.line)
 
 -- a byte meets the line: what is whole with it
-abbrev pub met : ℕ → Half → Half × Whole
-met b h = let m = met_at h.line b h in (looked_at h.line b m.0, m.1)
+abbrev pub taken_in : ℕ → Half → Half × Whole
+taken_in b h = let m = taken_in_at h.line b h in (looked_at h.line b m.0, m.1)
 
 abbrev pub counted : ℕ → Half → Half
 counted b h =

@@ -20,12 +20,12 @@ use Rattle.mdoc_command.specs.Names.{opener_of, opens}
 use Rattle.mdoc_command.specs.declared.wording.Wording.{Wording}
 use Rattle.mdoc_command.specs.Wording.{fault, line_of, more, no_line, taking}
 use Rattle.mdoc_command.specs.Telling as telling
-use Rattle.mdoc_command.specs.Telling.{AllTold}
+use Rattle.mdoc_command.specs.Telling.{AllReported}
 
 pub record Page : Type 0 where
   pub half : Half
   pub blocks : Items OpenBlock
-  pub told : AllTold
+  pub reported : AllReported
   pub wording : Wording
   pub headed : Bool
 
@@ -33,13 +33,13 @@ abbrev pub first_page : ℕ → ℕ → Page
 first_page blocks complaints = record {
   half = lines.first;
   blocks = record { items = []; capacity = blocks };
-  told = telling.nothing_told complaints;
+  reported = telling.nothing_reported complaints;
   wording = no_line;
   headed = false;
 }
 
-abbrev pub told : Kind → Page → Page
-told kind p = record p { told = telling.told kind p.half.number p.told }
+abbrev pub reported : Kind → Page → Page
+reported kind p = record p { reported = telling.reported kind p.half.number p.reported }
 
 abbrev pub with_blocks : List OpenBlock → Page → Page
 with_blocks blocks p = record p { blocks = record p.blocks { items = blocks } }
@@ -48,16 +48,16 @@ with_blocks blocks p = record p { blocks = record p.blocks { items = blocks } }
 
 abbrev pub opened : List ℕ → Page → Page
 opened name p =
-    if length p.blocks.items == p.blocks.capacity then told (kinds.TooMany name) p else
+    if length p.blocks.items == p.blocks.capacity then reported (kinds.TooMany name) p else
     with_blocks (insert p.blocks.items 0 (record { name = name; line = p.half.number; columns = false })) p
 
 -- blocks that were opened in the one that is ended stay open
 abbrev pub nested : List ℕ → ℕ → Page → Page
 nested opener place p =
-    if nat_lt 0 place then told (kinds.Nested opener (last_name p.blocks.items)) p else p
+    if nat_lt 0 place then reported (kinds.Nested opener (last_name p.blocks.items)) p else p
 
 abbrev pub ended_at : Option ℕ → List ℕ → Page → Page
-ended_at None opener p = told (kinds.NotOpen p.half.name) p
+ended_at None opener p = reported (kinds.NotOpen p.half.name) p
 ended_at (Some place) opener p = with_blocks (remove p.blocks.items place) (nested opener place p)
 
 abbrev pub ended : List ℕ → Page → Page
@@ -79,7 +79,7 @@ in_columns (Some place) blocks = has_columns (slice_get blocks place)
 abbrev pub cell : Page → Page
 cell p =
     if in_columns (place_of (codes "Bl") p.blocks.items) p.blocks.items then p else
-    told (kinds.Outside p.half.name) p
+    reported (kinds.Outside p.half.name) p
 
 -- a macro opens or ends a block, or does neither
 abbrev pub called : Page → Page
@@ -92,11 +92,11 @@ called p =
 abbrev pub broken : ℕ → Page → Page
 broken n p = record p {
   blocks = record p.blocks { items = drop n p.blocks.items };
-  told = telling.broken p.half.name p.half.number (take n p.blocks.items) p.told;
+  reported = telling.broken p.half.name p.half.number (take n p.blocks.items) p.reported;
 }
 
 abbrev pub item_at : Option ℕ → Page → Page
-item_at None p = told (kinds.Outside p.half.name) p
+item_at None p = reported (kinds.Outside p.half.name) p
 item_at (Some place) p = broken place p
 
 abbrev pub item : Page → Page
@@ -112,7 +112,7 @@ abbrev pub begun : Page → Page
 begun p =
     if bytes_eq p.half.name (codes "Sh") || bytes_eq p.half.name (codes "Ss")
     then broken (length p.blocks.items) (record p { headed = true }) else
-    if p.headed && is_prologue p.half.name then told (kinds.Late p.half.name) p else
+    if p.headed && is_prologue p.half.name then reported (kinds.Late p.half.name) p else
     if bytes_eq p.half.name (codes "It") then item p else called p
 
 abbrev pub known : Page → Page
@@ -121,7 +121,7 @@ known p = begun (record p { wording = line_of p.half.name p.half.number })
 -- its name is no word
 unfoldable pub judged : Page → Page
 judged p =
-    let q = if is_some (macro_of p.half.name) then known p else told (kinds.Unknown p.half.name p.half.cut) p in
+    let q = if is_some (macro_of p.half.name) then known p else reported (kinds.Unknown p.half.name p.half.cut) p in
     record q { half = record q.half { name = [] } }
 
 -- ---- the words of its line
@@ -159,15 +159,15 @@ begins_other lines_of.Closed line = false
 begins_other lines_of.Escape line = is_quoted line || is_text line
 begins_other before line = is_quoted line
 
-abbrev pub told_of_line : Option Kind → Page → Page
-told_of_line None p = p
-told_of_line (Some kind) p = record p { told = telling.told kind p.wording.line p.told }
+abbrev pub reported_of_line : Option Kind → Page → Page
+reported_of_line None p = p
+reported_of_line (Some kind) p = record p { reported = telling.reported kind p.wording.line p.reported }
 
 -- the line ends: what is wrong with its words is told
 abbrev pub line_ended : Line → Page → Page
 line_ended before p =
     let wrong = if is_quoted before then Some (kinds.OpenQuote p.wording.name) else fault p.wording in
-    told_of_line wrong (record p { wording = record p.wording { reading = false } })
+    reported_of_line wrong (record p { wording = record p.wording { reading = false } })
 
 abbrev pub is_start : Line → Bool
 is_start lines_of.Start = true
@@ -200,7 +200,7 @@ counted b p = with_half (lines.counted b p.half) p
 abbrev pub heard : ℕ → Page → Page
 heard b p =
     if lines.is_unread b p.half then p else
-    let m = lines.met b p.half in
+    let m = lines.taken_in b p.half in
     counted b (gone_on p.half.line (acted m.1 (with_half m.0 p)))
 
 abbrev pub all_heard : List ℕ → Page → Page
@@ -211,5 +211,5 @@ all_heard (b ∷ bs) p = all_heard bs (heard b p)
 abbrev pub finished : Page → Page
 finished p = record p {
   blocks = record p.blocks { items = [] };
-  told = telling.not_ended p.blocks.items p.told;
+  reported = telling.not_ended p.blocks.items p.reported;
 }

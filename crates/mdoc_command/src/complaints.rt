@@ -8,7 +8,7 @@ ghost use Rattle.filters.specs.Endings.{Tells};
 ghost use Rattle.mdoc_command.specs.Complaints as specs;
 
 use super::shown::shown;
-use super::telling::{Complaint, Kind, Told};
+use super::telling::{Complaint, Kind, Reported};
 use filters::put_all;
 use itoa::Buffer;
 use nr_units::Name;
@@ -241,31 +241,36 @@ fn put_more<E: Sink>(program: &str, name: &str, missed: bool, errors: &mut E) ->
 }
 
 /// Writes what is told of the text of this name, up to the first fault of a write.
-fn put_told<E: Sink>(
+fn put_reported<E: Sink>(
     program: &str,
     name: &str,
-    told: &Told<'_>,
+    reported: &Reported<'_>,
     errors: &mut E,
 ) -> Result<(), Fault>
     ensures ok { OnOk result (Appends (E.held errors.old) (E.held errors.new)
-        (specs.lines_of program.now name.now told.now)) }
+        (specs.lines_of program.now name.now reported.now)) }
     ensures err { OnErr result (AppendsPrefix (E.held errors.old) (E.held errors.new)
-        (specs.lines_of program.now name.now told.now)) }
+        (specs.lines_of program.now name.now reported.now)) }
     ensures failures { E.failures errors.new ≡ put_counted (E.failures errors.old) result }
 {
-    put_complaints(program, name, told.complaints(), errors)?;
-    put_more(program, name, told.has_missed(), errors)
+    put_complaints(program, name, reported.complaints(), errors)?;
+    put_more(program, name, reported.has_missed(), errors)
 }
 
 /// This program tells what is told of the text of this name, as far as `errors` takes it, and whether something is.
 ///
 /// Proved: Each complaint about a text is written, in one line with the text's name and the line of the fault, in their
 /// order: all of them, or a prefix where a call failed.
-pub fn tell_complaints<E: Sink>(program: &str, name: &str, told: &Told<'_>, errors: &mut E) -> bool
-    ensures told { Tells (E.held errors.old) (E.held errors.new) (E.failures errors.old) (E.failures errors.new)
-        (specs.lines_of program.now name.now told.now) }
-    ensures wrong { result ≡ (told.now.missed || not (length told.now.complaints.items == 0)) }
+pub fn tell_complaints<E: Sink>(
+    program: &str,
+    name: &str,
+    reported: &Reported<'_>,
+    errors: &mut E,
+) -> bool
+    ensures reported { Tells (E.held errors.old) (E.held errors.new) (E.failures errors.old) (E.failures errors.new)
+        (specs.lines_of program.now name.now reported.now) }
+    ensures wrong { result ≡ (reported.now.missed || not (length reported.now.complaints.items == 0)) }
 {
-    let _ = put_told(program, name, told, errors);
-    told.has_missed() || !told.complaints().is_empty()
+    let _ = put_reported(program, name, reported, errors);
+    reported.has_missed() || !reported.complaints().is_empty()
 }

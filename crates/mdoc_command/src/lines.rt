@@ -185,12 +185,12 @@ impl Half {
     }
 
     /// A byte meets the line.
-    pub fn meet(&mut self, byte: u8) -> Whole
-        ensures half { self.new ≡ (specs.met byte self.old).0 }
-        ensures whole { result ≡ (specs.met byte self.old).1 }
+    pub fn take_in(&mut self, byte: u8) -> Whole
+        ensures half { self.new ≡ (specs.taken_in byte self.old).0 }
+        ensures whole { result ≡ (specs.taken_in byte self.old).1 }
     {
         let line = self.line;
-        let whole = self.meet_line(byte);
+        let whole = self.take_in_line(byte);
         self.look(line, byte);
         whole
     }
@@ -205,9 +205,9 @@ impl Half {
     }
 
     /// It meets it by where it is read.
-    fn meet_line(&mut self, byte: u8) -> Whole
-        ensures half { self.new ≡ (specs.met_at self.old.line byte self.old).0 }
-        ensures whole { result ≡ (specs.met_at self.old.line byte self.old).1 }
+    fn take_in_line(&mut self, byte: u8) -> Whole
+        ensures half { self.new ≡ (specs.taken_in_at self.old.line byte self.old).0 }
+        ensures whole { result ≡ (specs.taken_in_at self.old.line byte self.old).1 }
     {
         match self.line {
             Line::Name => return self.in_name(byte),
@@ -231,7 +231,7 @@ impl Half {
             Line::Quoted(escaped) => self.in_quotes(escaped, byte),
             Line::Closed => self.closed(byte),
             Line::Body => self.in_body(byte),
-            Line::Dot => self.behind_dot(byte),
+            Line::Dot => self.after_dot(byte),
             Line::BodyLine => self.line = body_after(byte),
             Line::ControlEscape => self.line = escape_after(byte),
             Line::Comment => self.line = comment_after(byte),
@@ -311,7 +311,7 @@ impl Half {
             self.line = rest_after(byte);
             return Whole::Nothing;
         }
-        self.behind_name(byte)
+        self.after_name(byte)
     }
 
     /// The name is that of `.Dd`, in one of the first lines.
@@ -322,9 +322,9 @@ impl Half {
     }
 
     /// The name is whole, of a request or a macro.
-    fn behind_name(&mut self, byte: u8) -> Whole
-        ensures half { self.new ≡ (specs.behind_name byte self.old).0 }
-        ensures whole { result ≡ (specs.behind_name byte self.old).1 }
+    fn after_name(&mut self, byte: u8) -> Whole
+        ensures half { self.new ≡ (specs.after_name byte self.old).0 }
+        ensures whole { result ≡ (specs.after_name byte self.old).1 }
     {
         if defines(self.name.as_bytes()) {
             self.line = body_after(byte);
@@ -457,8 +457,8 @@ impl Half {
     }
 
     /// After a dot there: a second one ends the definition.
-    fn behind_dot(&mut self, byte: u8)
-        ensures { self.new ≡ specs.behind_dot byte self.old }
+    fn after_dot(&mut self, byte: u8)
+        ensures { self.new ≡ specs.after_dot byte self.old }
     {
         self.line = match byte {
             b'.' => Line::Rest,

@@ -1,7 +1,7 @@
 // A page is looked at, and not turned.
 ghost use Rattle.std.specs.Prelude.{◌≡◌, IfErr, IfOk};
 ghost use Rattle.filters.specs.Endings.{Tells};
-ghost use Rattle.mdoc_command.specs.Complaints.{lines_of, told_of};
+ghost use Rattle.mdoc_command.specs.Complaints.{lines_of, reported_of};
 
 use super::blocks::{MOST_OPEN, OpenBlock};
 use super::complaints::tell_complaints;
@@ -19,8 +19,8 @@ pub fn tell_page<E: Sink>(
     alloc: Global,
     errors: &mut E,
 ) -> Result<(), AllocError>
-    ensures told { IfOk result (λ _. Tells (E.held errors.old) (E.held errors.new) (E.failures errors.old)
-        (E.failures errors.new) (lines_of program.now name.now (told_of text.now))) }
+    ensures reported { IfOk result (λ _. Tells (E.held errors.old) (E.held errors.new) (E.failures errors.old)
+        (E.failures errors.new) (lines_of program.now name.now (reported_of text.now))) }
     ensures untold { IfErr result (λ _. errors.new ≡ errors.old) }
 {
     let mut open = vec![in alloc; OpenBlock::none(); MOST_OPEN]?;
@@ -28,6 +28,6 @@ pub fn tell_page<E: Sink>(
     let mut page = Watch::over(&mut open, &mut complaints);
     page.hear_all(text);
     page.finish();
-    tell_complaints(program, name, page.told(), errors);
+    tell_complaints(program, name, page.reported(), errors);
     Ok(())
 }

@@ -74,7 +74,7 @@ impl Turns for Rooms {
             &mut self.pending,
             &mut steps,
         );
-        let wrong = tell_complaints("mdoc", name, watched.told(), errors);
+        let wrong = tell_complaints("mdoc", name, watched.reported(), errors);
         (ended(outcome, wrong), output)
     }
 }

@@ -66,25 +66,25 @@ pub fn room_for(n: usize, alloc: Global) -> Result<Vec<Complaint>, AllocError>
 
 /// What is told of a page.
 #[derive(Drop)]
-pub struct Told<'a> {
+pub struct Reported<'a> {
     complaints: SliceVec<'a, Complaint>,
     missed: bool,
 }
 
-impl<'a> Model for Told<'a> {
-    ghost use Rattle.mdoc_command.specs.Telling.{AllTold};
+impl<'a> Model for Reported<'a> {
+    ghost use Rattle.mdoc_command.specs.Telling.{AllReported};
 
-    ghost Value = { AllTold };
+    ghost Value = { AllReported };
 
     ghost view = { λ t. record { complaints = t.complaints; missed = t.missed } };
 }
 
-impl<'a> Told<'a> {
+impl<'a> Reported<'a> {
     /// Nothing is told: complaints come into this room.
-    pub fn over(room: &'a mut [Complaint]) -> Told<'a>
-        ensures { result ≡ specs.nothing_told (length room.entry.now) }
+    pub fn over(room: &'a mut [Complaint]) -> Reported<'a>
+        ensures { result ≡ specs.nothing_reported (length room.entry.now) }
     {
-        Told {
+        Reported {
             complaints: SliceVec::over(room),
             missed: false,
         }
@@ -109,7 +109,7 @@ impl<'a> Told<'a> {
     /// Proved: The first complaints on a page are reported, as many as there is room for, and whether there were
     /// more.
     pub fn tell(&mut self, kind: Kind, line: u64)
-        ensures { self.new ≡ specs.told kind line self.old }
+        ensures { self.new ≡ specs.reported kind line self.old }
     {
         if self.complaints.is_full() {
             self.missed = true;

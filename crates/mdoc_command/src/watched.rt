@@ -1,7 +1,7 @@
 // A source whose lines are watched.
 ghost use Rattle.std.specs.Prelude.{◌≡◌};
 
-use super::telling::Told;
+use super::telling::Reported;
 use super::watching::Watch;
 use nr_units::source::{Fault, Source};
 
@@ -22,8 +22,8 @@ impl<'a, S: Source + Drop> Watched<'a, S> {
     }
 
     /// What is told of the page.
-    pub fn told(&self) -> &Told<'a> {
-        self.page.told()
+    pub fn reported(&self) -> &Reported<'a> {
+        self.page.reported()
     }
 }
 

@@ -5,7 +5,7 @@ ghost use Rattle.mdoc_command.specs.Watching as specs;
 use super::blocks::{OpenBlock, place_of};
 use super::lines::{Half, Line, Whole};
 use super::names::{opener_of, opens};
-use super::telling::{Complaint, Kind, Told};
+use super::telling::{Complaint, Kind, Reported};
 use super::wording::Wording;
 use mdoc_converter::is_macro;
 use nr_units::Name;
@@ -17,7 +17,7 @@ use std::marker::Model;
 pub struct Watch<'a> {
     half: Half,
     blocks: SliceVec<'a, OpenBlock>,
-    told: Told<'a>,
+    reported: Reported<'a>,
     /// The line of a macro.
     wording: Wording,
     /// A section has begun.
@@ -47,7 +47,7 @@ impl<'a> Model for Watch<'a> {
 
     ghost Value = { Page };
 
-    ghost view = { λ w. record { half = w.half; blocks = w.blocks; told = w.told; wording = w.wording; headed = w.headed } };
+    ghost view = { λ w. record { half = w.half; blocks = w.blocks; reported = w.reported; wording = w.wording; headed = w.headed } };
 }
 
 impl<'a> Watch<'a> {
@@ -58,17 +58,17 @@ impl<'a> Watch<'a> {
         Watch {
             half: Half::new(),
             blocks: SliceVec::over(blocks),
-            told: Told::over(complaints),
+            reported: Reported::over(complaints),
             wording: Wording::none(),
             headed: false,
         }
     }
 
     /// What is told.
-    pub fn told(&self) -> &Told<'a>
-        ensures { result.now ≡ self.now.told }
+    pub fn reported(&self) -> &Reported<'a>
+        ensures { result.now ≡ self.now.reported }
     {
-        &self.told
+        &self.reported
     }
 
     /// A byte comes.
@@ -85,7 +85,7 @@ impl<'a> Watch<'a> {
             return;
         }
         let before = self.half.line;
-        match self.half.meet(byte) {
+        match self.half.take_in(byte) {
             Whole::Nothing => {}
             Whole::Macro => self.judge(),
             Whole::Word => self.word(),
@@ -150,7 +150,7 @@ impl<'a> Watch<'a> {
         };
         if let Some(kind) = wrong {
             let line = self.wording.line;
-            self.told.tell(kind, line);
+            self.reported.tell(kind, line);
         }
     }
 
@@ -170,16 +170,16 @@ impl<'a> Watch<'a> {
     pub fn finish(&mut self)
         ensures { self.new ≡ specs.finished self.old }
     {
-        self.told.tell_not_ended(self.blocks.as_slice());
+        self.reported.tell_not_ended(self.blocks.as_slice());
         self.blocks.clear();
     }
 
     /// Tells what is wrong with the line.
     fn tell(&mut self, kind: Kind)
-        ensures { self.new ≡ specs.told kind self.old }
+        ensures { self.new ≡ specs.reported kind self.old }
     {
         let line = self.half.number;
-        self.told.tell(kind, line);
+        self.reported.tell(kind, line);
     }
 
     /// A macro begins a line.
@@ -235,7 +235,7 @@ impl<'a> Watch<'a> {
     {
         let by = self.half.name;
         let line = self.half.number;
-        self.told
+        self.reported
             .tell_broken(by, line, &self.blocks.as_slice()[..n]);
         self.blocks.remove_prefix(n);
     }

@@ -14,7 +14,7 @@ use Rattle.document_stages.specs.Pulling.{whole}
 use Rattle.document_printing.specs.Document.{Prints, Setting, pages_of, source_of}
 use Rattle.document_printing.specs.declared.setup.Outcome.{Outcome}
 use Rattle.document_printing.specs.declared.setup.Outcome.TheVariants.{Done, Limit, NoRoom, ReadFault, TooLong, WriteFault}
-use Rattle.nulbiko.specs.Printed.{IsFront, IsOut, IsPrinted, cut_off, dropped_of, outcome_of}
+use Rattle.nulbiko.specs.Printed.{IsPrefix, IsOut, IsPrinted, cut_off, dropped_of, outcome_of}
 use Rattle.nulbiko.specs.declared.printed.Form.{Form}
 use Rattle.nulbiko.specs.declared.printed.Form.TheVariants.{Bytes, Characters}
 
@@ -67,9 +67,9 @@ all_of : (t : Table) (e : Bool) (failed failed' : ℕ) (pages bytes : List ℕ) 
     → Finishes {E = Fault} (making t e (Some []) failed) pages (Some bytes) failed' (Ok n) → IsOut Done (Characters t e) pages bytes n
 all_of t e failed failed' pages bytes n f = (f.went_out, subst (λ (z : List ℕ). KeepsLines t e pages z) (sym f.went_out) f.text, f.made)
 
-front_of : (t : Table) (e : Bool) (failed failed' : ℕ) (pages bytes : List ℕ) (x : Fault)
-    → Finishes (making t e (Some []) failed) pages (Some bytes) failed' (Err x) → IsFront bytes (converted t e pages)
-front_of t e failed failed' pages bytes x f =
+prefix_of : (t : Table) (e : Bool) (failed failed' : ℕ) (pages bytes : List ℕ) (x : Fault)
+    → Finishes (making t e (Some []) failed) pages (Some bytes) failed' (Err x) → IsPrefix bytes (converted t e pages)
+prefix_of t e failed failed' pages bytes x f =
     (f.went_out.1, f.went_out.2 ∙ ap (λ (z : List ℕ). z ++ f.went_out.1) (sym f.went_out.3))
 
 shown_at : (t : Table) (e : Bool) (failed failed' : ℕ) (o : Outcome) (pages bytes : List ℕ) (r : Result ℕ Fault)
@@ -82,12 +82,12 @@ shown_at t e failed failed' ReadFault pages bytes (Ok n) f = tt
 shown_at t e failed failed' TooLong pages bytes (Ok n) f = tt
 shown_at t e failed failed' WriteFault pages bytes (Ok n) f =
     ([], sym (all_of t e failed failed' pages bytes n (f tt)).0 ∙ sym (append-nil bytes))
-shown_at t e failed failed' Done pages bytes (Err x) f = front_of t e failed failed' pages bytes x (f tt)
-shown_at t e failed failed' (Limit which at) pages bytes (Err x) f = front_of t e failed failed' pages bytes x (f tt)
-shown_at t e failed failed' NoRoom pages bytes (Err x) f = front_of t e failed failed' pages bytes x (f tt)
+shown_at t e failed failed' Done pages bytes (Err x) f = prefix_of t e failed failed' pages bytes x (f tt)
+shown_at t e failed failed' (Limit which at) pages bytes (Err x) f = prefix_of t e failed failed' pages bytes x (f tt)
+shown_at t e failed failed' NoRoom pages bytes (Err x) f = prefix_of t e failed failed' pages bytes x (f tt)
 shown_at t e failed failed' ReadFault pages bytes (Err x) f = tt
 shown_at t e failed failed' TooLong pages bytes (Err x) f = tt
-shown_at t e failed failed' WriteFault pages bytes (Err x) f = front_of t e failed failed' pages bytes x (f tt)
+shown_at t e failed failed' WriteFault pages bytes (Err x) f = prefix_of t e failed failed' pages bytes x (f tt)
 
 pub shown_out : (t : Table) (e : Bool) (begun new : Option (List ℕ)) (failed failed' : ℕ) (o : Outcome) (pages bytes : List ℕ) (r : Result ℕ Fault)
     → begun ≡ Some [] → new ≡ Some bytes
@@ -100,9 +100,9 @@ shown_out t e begun new failed failed' o pages bytes r before after f =
 
 -- ---- how it was printed
 
-told_of : (o : Outcome) (r : Result ℕ Fault) → (outcome_of o r ≡ o) ⊎ (outcome_of o r ≡ cut_off o)
-told_of o (Ok n) = inl refl
-told_of o (Err x) = inr refl
+reported_of : (o : Outcome) (r : Result ℕ Fault) → (outcome_of o r ≡ o) ⊎ (outcome_of o r ≡ cut_off o)
+reported_of o (Ok n) = inl refl
+reported_of o (Err x) = inr refl
 
 pub is_printed : (s : Setting) (form : Form) (page bytes pages : List ℕ) (n m d : ℕ) (o p : Outcome) (r : Result ℕ Fault)
     → Prints s (source_of s (whole page)) n o (Some []) (Some pages) → IsOut (outcome_of o r) form pages bytes (dropped_of r)
@@ -111,7 +111,7 @@ is_printed s form page bytes pages n m d o p r prints out moves outcome dropped 
     subst (λ (x : ℕ). IsPrinted s form page bytes m p x) (sym dropped)
     (subst (λ (y : Outcome). IsPrinted s form page bytes m y (dropped_of r)) (sym outcome)
     (subst (λ (z : ℕ). IsPrinted s form page bytes z (outcome_of o r) (dropped_of r)) (sym moves)
-    (record { ended = o; pages = pages; prints = prints; told = told_of o r; out = out })))
+    (record { ended = o; pages = pages; prints = prints; reported = reported_of o r; out = out })))
 
 some_is : (xs ys : List ℕ) → Some xs ≡ Some ys → xs ≡ ys
 some_is xs ys e = cc

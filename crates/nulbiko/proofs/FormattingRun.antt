@@ -17,7 +17,7 @@ carried b b' o q n outcome old old' new new' a same before after =
     (subst (λ x. Answers x (start x o q) n outcome old new) same a))
 
 -- where no call failed, none is reported
-pub unread : (told : Bool) → 0 ≡ counted_if told 0 → told ≡ false
+pub unread : (reported : Bool) → 0 ≡ counted_if reported 0 → reported ≡ false
 unfolding next_count
 unread false e = refl
 unread true e = absurd (omega (arith, e))

@@ -27,7 +27,7 @@ use Rattle.document_printing.specs.declared.showing.Spelling.TheVariants.{Utf8}
 use Rattle.nulbiko.specs.Document.{PrintsDocument, table_for}
 use Rattle.nulbiko.specs.Own.{HasOwn, IsCodedShort, IsOwn, IsShortIf, Lends, LookIsShort, OwnIsShort, OwnIsShortToo, PrintsBy, PrintsOwn, PrintsPage, ShowsOwn, asks_for_own, coded_setup, counts_for, stages_of, takes_own}
 use Rattle.nulbiko.specs.declared.document.DocumentSetup.{DocumentSetup}
-use Rattle.nulbiko.specs.declared.told.Report.{Report}
+use Rattle.nulbiko.specs.declared.reported.Report.{Report}
 
 -- where the output was empty, and has these bytes
 pub shown-as : (s : Setting) (spelling : Spelling) (source : Supply) (n n' : ℕ) (o o' : Outcome) (held new : Option (List ℕ)) (bytes : List ℕ)
@@ -103,14 +103,14 @@ coded-short setup text stages table same short is =
     subst (λ (z : Stages). IsCodedShort z table text) (sym same) (record { page = short.page; plain = short.plain; coded = short.coded table is })
 
 -- what was counted of the first of a page
-pub looked-as : (P : List Count → Type 0) (stages stages' : Stages) (frames frames' : Bool) (front front' : List ℕ)
-    → (LookIsShort stages front → P (counts_of 4352 frames (plain_of stages targets.Utf8 front)))
-    → stages ≡ stages' → frames ≡ frames' → front ≡ front'
-    → LookIsShort stages' front' → P (counts_of 4352 frames' (plain_of stages' targets.Utf8 front'))
-looked-as P stages stages' frames frames' front front' looked same same' same'' =
+pub looked-as : (P : List Count → Type 0) (stages stages' : Stages) (frames frames' : Bool) (prefix prefix' : List ℕ)
+    → (LookIsShort stages prefix → P (counts_of 4352 frames (plain_of stages targets.Utf8 prefix)))
+    → stages ≡ stages' → frames ≡ frames' → prefix ≡ prefix'
+    → LookIsShort stages' prefix' → P (counts_of 4352 frames' (plain_of stages' targets.Utf8 prefix'))
+looked-as P stages stages' frames frames' prefix prefix' looked same same' same'' =
     subst (λ (z : List ℕ). LookIsShort stages' z → P (counts_of 4352 frames' (plain_of stages' targets.Utf8 z))) same''
-    (subst (λ (z : Bool). LookIsShort stages' front → P (counts_of 4352 z (plain_of stages' targets.Utf8 front))) same'
-    (subst (λ (z : Stages). LookIsShort z front → P (counts_of 4352 frames (plain_of z targets.Utf8 front))) same looked))
+    (subst (λ (z : Bool). LookIsShort stages' prefix → P (counts_of 4352 z (plain_of stages' targets.Utf8 prefix))) same'
+    (subst (λ (z : Stages). LookIsShort z prefix → P (counts_of 4352 frames (plain_of z targets.Utf8 prefix))) same looked))
 
 -- ---- whether a page takes one
 
@@ -121,22 +121,22 @@ not-asked setup text asks is none =
 asked-lacks : (setup : DocumentSetup) (text : List ℕ) (characters : Option fixed.Table) (xs : List Count) (asks lacking r : Bool)
     → asks ≡ asks_for_own setup text → asks ≡ true → lacking ≡ lacks characters xs → lacking ≡ r
     → characters ≡ table_for setup.options.table text → xs ≡ counts_for setup text → takes_own setup text ≡ r
-asked-lacks setup text characters xs asks lacking r is all told same fixed-is counts =
+asked-lacks setup text characters xs asks lacking r is all reported same fixed-is counts =
     ap (λ (z : Bool). z && lacks (table_for setup.options.table text) (counts_for setup text)) (sym is ∙ all)
     ∙ ap (λ (z : Option fixed.Table). lacks z (counts_for setup text)) (sym fixed-is)
-    ∙ ap (λ (z : List Count). lacks characters z) (sym counts) ∙ sym told ∙ same
+    ∙ ap (λ (z : List Count). lacks characters z) (sym counts) ∙ sym reported ∙ same
 
 pub lacks-none : (setup : DocumentSetup) (text : List ℕ) (characters : Option fixed.Table) (xs : List Count) (asks lacking : Bool)
     → asks ≡ asks_for_own setup text → asks ≡ true → lacking ≡ lacks characters xs → lacking ≡ false
     → characters ≡ table_for setup.options.table text → xs ≡ counts_for setup text → HasOwn setup text None
-lacks-none setup text characters xs asks lacking is all told same fixed-is counts =
-    asked-lacks setup text characters xs asks lacking false is all told same fixed-is counts
+lacks-none setup text characters xs asks lacking is all reported same fixed-is counts =
+    asked-lacks setup text characters xs asks lacking false is all reported same fixed-is counts
 
 pub lacks-some : (setup : DocumentSetup) (text : List ℕ) (characters : Option fixed.Table) (xs ys : List Count) (asks lacking : Bool)
     → asks ≡ asks_for_own setup text → asks ≡ true → lacking ≡ lacks characters xs → lacking ≡ true
     → characters ≡ table_for setup.options.table text → xs ≡ counts_for setup text → ys ≡ ranked xs → HasOwn setup text (Some ys)
-lacks-some setup text characters xs ys asks lacking is all told same fixed-is counts order =
-    (asked-lacks setup text characters xs asks lacking true is all told same fixed-is counts, order ∙ ap ranked counts)
+lacks-some setup text characters xs ys asks lacking is all reported same fixed-is counts order =
+    (asked-lacks setup text characters xs asks lacking true is all reported same fixed-is counts, order ∙ ap ranked counts)
 
 -- what is short where one is asked for
 pub short-if : (setup : DocumentSetup) (text : List ℕ) (asks : Bool) → asks ≡ asks_for_own setup text → asks ≡ true
@@ -153,11 +153,11 @@ short-own setup text takes short =
     subst (λ (z : Bool). IsShortIf z setup text)
     (and-left (asks_for_own setup text) (lacks (table_for setup.options.table text) (counts_for setup text)) takes) short
 
-pub prints-by : (setup : DocumentSetup) (macros text output : List ℕ) (told : Report) (code : ℕ) (takes : Bool) → takes_own setup text ≡ takes
-    → PrintsBy takes setup macros text output told code → PrintsPage setup macros text output told code
+pub prints-by : (setup : DocumentSetup) (macros text output : List ℕ) (reported : Report) (code : ℕ) (takes : Bool) → takes_own setup text ≡ takes
+    → PrintsBy takes setup macros text output reported code → PrintsPage setup macros text output reported code
 unfolding PrintsPage
-prints-by setup macros text output told code takes is prints =
-    subst (λ (z : Bool). PrintsBy z setup macros text output told code) (sym is) prints
+prints-by setup macros text output reported code takes is prints =
+    subst (λ (z : Bool). PrintsBy z setup macros text output reported code) (sym is) prints
 
 pub made-as : (xs ys : List Count) (t : Characters) → IsMadeOf ys t → ys ≡ ranked xs → IsTableOf xs t
 made-as xs ys t made is = subst (λ (z : List Count). IsMadeOf z t) is made
@@ -174,22 +174,22 @@ has-own setup page first second characters own own' same same' chosen has is sho
     (subst (λ (z : List ℕ). IsShortIf (asks_for_own setup z) setup z → characters ≡ table_for setup.options.table z → HasOwn setup z own) same' has
     short (chosen ∙ ap (λ (z : List ℕ). table_for setup.options.table z) same))
 
-pub printed-own : (setup : DocumentSetup) (macros page text output : List ℕ) (told : Report) (code : ℕ) (xs ys : List Count)
+pub printed-own : (setup : DocumentSetup) (macros page text output : List ℕ) (reported : Report) (code : ℕ) (xs ys : List Count)
     → text ≡ page → HasOwn setup page (Some xs) → IsShortIf (asks_for_own setup page) setup page → ys ≡ xs
-    → (ys ≡ ranked (counts_for setup text) → OwnIsShort setup text → PrintsOwn setup macros text output told code)
-    → PrintsPage setup macros page output told code
-printed-own setup macros page text output told code xs ys same has short order prints =
-    prints-by setup macros page output told code true has.0
-    (subst (λ (z : List ℕ). ys ≡ ranked (counts_for setup z) → OwnIsShort setup z → PrintsOwn setup macros z output told code) same prints
+    → (ys ≡ ranked (counts_for setup text) → OwnIsShort setup text → PrintsOwn setup macros text output reported code)
+    → PrintsPage setup macros page output reported code
+printed-own setup macros page text output reported code xs ys same has short order prints =
+    prints-by setup macros page output reported code true has.0
+    (subst (λ (z : List ℕ). ys ≡ ranked (counts_for setup z) → OwnIsShort setup z → PrintsOwn setup macros z output reported code) same prints
     (order ∙ has.1) (short-own setup page has.0 short).own)
 
-pub printed-fixed : (setup : DocumentSetup) (macros page text output : List ℕ) (told : Report) (code : ℕ)
+pub printed-fixed : (setup : DocumentSetup) (macros page text output : List ℕ) (reported : Report) (code : ℕ)
     → text ≡ page → HasOwn setup page None → IsShort page (man_of setup.options.mdoc page)
-    → (IsShort text (man_of setup.options.mdoc text) → PrintsDocument setup macros text output told code)
-    → PrintsPage setup macros page output told code
-printed-fixed setup macros page text output told code same has short prints =
-    prints-by setup macros page output told code false has
-    (subst (λ (z : List ℕ). IsShort z (man_of setup.options.mdoc z) → PrintsDocument setup macros z output told code) same prints short)
+    → (IsShort text (man_of setup.options.mdoc text) → PrintsDocument setup macros text output reported code)
+    → PrintsPage setup macros page output reported code
+printed-fixed setup macros page text output reported code same has short prints =
+    prints-by setup macros page output reported code false has
+    (subst (λ (z : List ℕ). IsShort z (man_of setup.options.mdoc z) → PrintsDocument setup macros z output reported code) same prints short)
 
 pub ranged : (code : ℕ) (A : Type 0) → (code ≡ 2 → ⊥) → A → (code ≡ 2 → A → ⊥) × ((A → ⊥) → code ≡ 2)
 ranged code A other a = (λ is. absurd (other is), λ none. absurd (none a))

@@ -10,7 +10,7 @@ use Rattle.utf8_converter.specs.Running.{Ran}
 use Rattle.document_stages.specs.declared.running.Outcome.{Outcome}
 use Rattle.document_stages.specs.declared.running.Outcome.TheVariants.{Done, ReadFault, TooLong, WriteFault}
 use Rattle.nulbiko.specs.Tables.{number_of}
-use Rattle.nulbiko.specs.Told.{whole_text}
+use Rattle.nulbiko.specs.Reported.{whole_text}
 use Rattle.nulbiko.specs.Utf8.{ChoosesNumber}
 
 -- of the same bytes before and after

@@ -15,13 +15,13 @@ use Rattle.document_printing.specs.Document.{Setting}
 use Rattle.document_printing.specs.declared.setup.Outcome.{Outcome}
 use Rattle.tbl_stage.specs.declared.rooms.PageLimits.{PageLimits}
 use Rattle.nulbiko.specs.Formatting.{bounds_of, faces_of}
-use Rattle.nulbiko.specs.Printed.{IsPrinted, code_of, form_of, limit_told, place_told}
+use Rattle.nulbiko.specs.Printed.{IsPrinted, code_of, form_of, limit_reported, place_reported}
 use Rattle.nulbiko.specs.Tables.{table_numbered}
-use Rattle.nulbiko.specs.Told.{IsHanded, code_within, count_told}
+use Rattle.nulbiko.specs.Reported.{IsHanded, code_within, count_reported}
 use Rattle.nulbiko.specs.declared.document.DocumentOptions.{DocumentOptions}
 use Rattle.nulbiko.specs.declared.document.DocumentSetup.{DocumentSetup}
 use Rattle.nulbiko.specs.declared.document.TableLimits.{TableLimits}
-use Rattle.nulbiko.specs.declared.told.Report.{Report}
+use Rattle.nulbiko.specs.declared.reported.Report.{Report}
 
 -- ---- what may be asked for
 
@@ -100,6 +100,6 @@ pub record PrintsDocument (setup : DocumentSetup) (macros page output : List ℕ
       page bytes moves outcome report.dropped
   pub handed : IsHanded bytes output report.written
   pub code_is : code ≡ code_within (code_of outcome) (length bytes) (length output)
-  pub moves_told : report.moves ≡ count_told moves
-  pub limit : report.limit ≡ limit_told outcome
-  pub place : report.at ≡ place_told (length macros) outcome
+  pub moves_reported : report.moves ≡ count_reported moves
+  pub limit : report.limit ≡ limit_reported outcome
+  pub place : report.at ≡ place_reported (length macros) outcome

@@ -10,10 +10,10 @@ use Rattle.nr_machine.specs.declared.outcome.Measure.{Measure}
 use Rattle.nr_machine.specs.declared.outcome.Measure.TheVariants as measures
 use Rattle.nr_machine.specs.declared.outcome.Outcome.{Outcome}
 use Rattle.nr_machine.specs.declared.outcome.Outcome.TheVariants.{Done, Limit, ReadFault, TooLong, WriteFault}
-use Rattle.nulbiko.specs.Told.{IsHanded, code_within, count_told, whole_text}
+use Rattle.nulbiko.specs.Reported.{IsHanded, code_within, count_reported, whole_text}
 use Rattle.nulbiko.specs.declared.formatting.TextLimits.{TextLimits}
 use Rattle.nulbiko.specs.declared.formatting.TextOptions.{TextOptions}
-use Rattle.nulbiko.specs.declared.told.Report.{Report}
+use Rattle.nulbiko.specs.declared.reported.Report.{Report}
 
 -- what the limits bound
 abbrev pub bounds_of : TextLimits → Bounds
@@ -45,14 +45,14 @@ limit_number measures.Expansions = 5
 limit_number measures.Moves = 6
 
 -- which limit would be passed, and 0 where none would
-abbrev pub limit_told : Outcome → ℕ
-limit_told (Limit which at) = limit_number which
-limit_told outcome = 0
+abbrev pub limit_reported : Outcome → ℕ
+limit_reported (Limit which at) = limit_number which
+limit_reported outcome = 0
 
 -- after how many bytes of the text
-abbrev pub place_told : Outcome → ℕ
-place_told (Limit which at) = at
-place_told outcome = 0
+abbrev pub place_reported : Outcome → ℕ
+place_reported (Limit which at) = at
+place_reported outcome = 0
 
 -- where bold is asked for, each cell but a blank shows as it looks
 abbrev pub faces_of : Bool → Faces
@@ -76,9 +76,9 @@ pub record FormatsText (b : Bounds) (wanted : TextOptions) (text output : List �
   pub answers : Answers b (start b options (whole_text text)) moves outcome (Some []) (Some bytes)
   pub handed : IsHanded bytes output report.written
   pub code_is : code ≡ code_within (code_of outcome) (length bytes) (length output)
-  pub moves_told : report.moves ≡ count_told moves
-  pub limit : report.limit ≡ limit_told outcome
-  pub place : report.at ≡ place_told outcome
+  pub moves_reported : report.moves ≡ count_reported moves
+  pub limit : report.limit ≡ limit_reported outcome
+  pub place : report.at ≡ place_reported outcome
   pub none_dropped : report.dropped ≡ 0
   pub no_line : report.line ≡ 0
   -- a slice doesn't fail

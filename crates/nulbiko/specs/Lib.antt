@@ -1,4 +1,4 @@
-pub mod Told
+pub mod Reported
 pub mod Tables
 pub mod Formatting
 pub mod Preconv

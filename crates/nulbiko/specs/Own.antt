@@ -4,7 +4,7 @@ use Rattle.utf8_own_characters.specs.declared.counting.Count.{Count}
 use Rattle.utf8_own_characters.specs.Ranking.{ranked}
 use Rattle.utf8_own_characters.specs.Table.{Characters}
 use Rattle.utf8_own_page.specs.Looking.{counts_of}
-use Rattle.utf8_own_page.specs.Needing.{IsTableOf, front_of, lacks, may_need_own}
+use Rattle.utf8_own_page.specs.Needing.{IsTableOf, prefix_of, lacks, may_need_own}
 use Rattle.preconv_converter.specs.declared.target.Target.TheVariants.{Ascii, Utf8}
 use Rattle.tbl_stage.specs.Text.{Bounds}
 use Rattle.nr_options.specs.declared.options.Options.{Options}
@@ -19,10 +19,10 @@ use Rattle.document_printing.specs.declared.showing.PageTable.{PageTable}
 use Rattle.document_printing.specs.declared.showing.PageTable.TheVariants.{Fixed, Own}
 use Rattle.document_printing.specs.declared.showing.Spelling.TheVariants as spellings
 use Rattle.nulbiko.specs.Document.{AreSet, PrintsDocument, setting_for, sets_of, table_for, tables_by}
-use Rattle.nulbiko.specs.Printed.{code_of, limit_told, place_told}
-use Rattle.nulbiko.specs.Told.{IsHanded, code_within, count_told}
+use Rattle.nulbiko.specs.Printed.{code_of, limit_reported, place_reported}
+use Rattle.nulbiko.specs.Reported.{IsHanded, code_within, count_reported}
 use Rattle.nulbiko.specs.declared.document.DocumentSetup.{DocumentSetup}
-use Rattle.nulbiko.specs.declared.told.Report.{Report}
+use Rattle.nulbiko.specs.declared.reported.Report.{Report}
 
 -- ---- which pages are
 
@@ -35,7 +35,7 @@ asks_for_own setup text = (setup.options.table == 6) && (not (setup.options.form
 
 -- what the first MiB of a page prints, with what frames are drawn with where tables are set
 abbrev pub counts_for : DocumentSetup → List ℕ → List Count
-counts_for setup text = counts_of 4352 (sets_of setup text) (plain_of (stages_of setup) Utf8 (front_of text))
+counts_for setup text = counts_of 4352 (sets_of setup text) (plain_of (stages_of setup) Utf8 (prefix_of text))
 
 -- and the fixed table that the page takes lacks some of it
 abbrev pub takes_own : DocumentSetup → List ℕ → Bool
@@ -43,9 +43,9 @@ takes_own setup text = asks_for_own setup text && lacks (table_for setup.options
 
 -- ---- what each stage is given is short
 
-pub record LookIsShort (stages : Stages) (front : List ℕ) : Type 0 where
-  pub page : IsShort front (man_of stages.mdoc front)
-  pub plain : length (plain_of stages Utf8 front) < 1099511627776
+pub record LookIsShort (stages : Stages) (prefix : List ℕ) : Type 0 where
+  pub page : IsShort prefix (man_of stages.mdoc prefix)
+  pub plain : length (plain_of stages Utf8 prefix) < 1099511627776
 
 pub record OwnIsShort (setup : DocumentSetup) (text : List ℕ) : Type 0 where
   pub page : IsShort text (man_of setup.options.mdoc text)
@@ -54,7 +54,7 @@ pub record OwnIsShort (setup : DocumentSetup) (text : List ℕ) : Type 0 where
       → length (own_of (stages_of setup) table text) < 1099511627776
 
 pub record OwnIsShortToo (setup : DocumentSetup) (text : List ℕ) : Type 0 where
-  pub look : LookIsShort (stages_of setup) (front_of text)
+  pub look : LookIsShort (stages_of setup) (prefix_of text)
   pub own : OwnIsShort setup text
 
 abbrev pub IsShortIf : Bool → DocumentSetup → List ℕ → Type 0
@@ -120,9 +120,9 @@ pub record PrintsOwn (setup : DocumentSetup) (macros text output : List ℕ) (re
   pub shown : ShowsOwn (setting_for setup macros text tables options) table (setup.options.form == 2) text bytes moves outcome
   pub handed : IsHanded bytes output report.written
   pub code_is : code ≡ code_within (code_of outcome) (length bytes) (length output)
-  pub moves_told : report.moves ≡ count_told moves
-  pub limit : report.limit ≡ limit_told outcome
-  pub place : report.at ≡ place_told (length macros) outcome
+  pub moves_reported : report.moves ≡ count_reported moves
+  pub limit : report.limit ≡ limit_reported outcome
+  pub place : report.at ≡ place_reported (length macros) outcome
   pub none_dropped : report.dropped ≡ 0
 
 abbrev pub PrintsBy : Bool → DocumentSetup → List ℕ → List ℕ → List ℕ → Report → ℕ → Type 0

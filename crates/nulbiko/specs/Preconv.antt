@@ -8,8 +8,8 @@ use Rattle.preconv_converter.specs.Running.{Ran}
 use Rattle.preconv_converter.specs.Targets.{target_of}
 use Rattle.document_stages.specs.declared.running.Outcome.{Outcome}
 use Rattle.document_stages.specs.declared.running.Outcome.TheVariants.{Done, ReadFault, TooLong, WriteFault}
-use Rattle.nulbiko.specs.Told.{IsHanded, code_within, whole_text}
-use Rattle.nulbiko.specs.declared.told.Report.{Report}
+use Rattle.nulbiko.specs.Reported.{IsHanded, code_within, whole_text}
+use Rattle.nulbiko.specs.declared.reported.Report.{Report}
 
 -- the number of an outcome
 abbrev pub code_of : Outcome → ℕ

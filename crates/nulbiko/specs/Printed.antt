@@ -41,12 +41,12 @@ shown Bytes pages = pages
 shown (Characters table escapes) pages = converted table escapes pages
 
 -- a front of a text
-abbrev pub IsFront : List ℕ → List ℕ → Type 0
-IsFront front text = (rest : List ℕ) × (text ≡ front ++ rest)
+abbrev pub IsPrefix : List ℕ → List ℕ → Type 0
+IsPrefix prefix text = (rest : List ℕ) × (text ≡ prefix ++ rest)
 
 -- All of the pages goes out where there is room, and else a front of that.
 abbrev pub IsOut : Outcome → Form → List ℕ → List ℕ → ℕ → Type 0
-IsOut WriteFault form pages bytes dropped = IsFront bytes (shown form pages)
+IsOut WriteFault form pages bytes dropped = IsPrefix bytes (shown form pages)
 IsOut ReadFault form pages bytes dropped = Unit {0}
 IsOut TooLong form pages bytes dropped = Unit {0}
 IsOut outcome form pages bytes dropped = Shows form pages bytes dropped
@@ -73,7 +73,7 @@ pub record IsPrinted (s : Setting) (form : Form) (page bytes : List ℕ) (moves 
   pub ended : Outcome
   pub pages : List ℕ
   pub prints : Prints s (source_of s (whole page)) moves ended (Some []) (Some pages)
-  pub told : (outcome ≡ ended) ⊎ (outcome ≡ cut_off ended)
+  pub reported : (outcome ≡ ended) ⊎ (outcome ≡ cut_off ended)
   pub out : IsOut outcome form pages bytes dropped
 
 -- ---- the numbers
@@ -88,12 +88,12 @@ code_of TooLong = 6
 code_of ReadFault = 9
 
 -- which limit would be passed, 7 that of what goes out of a table at once, and 0 where none would
-abbrev pub limit_told : Outcome → ℕ
-limit_told (Limit which at) = limit_number which
-limit_told NoRoom = 7
-limit_told outcome = 0
+abbrev pub limit_reported : Outcome → ℕ
+limit_reported (Limit which at) = limit_number which
+limit_reported NoRoom = 7
+limit_reported outcome = 0
 
 -- after how many bytes of what the formatter reads after macros of so many bytes, and 0 in these
-abbrev pub place_told : ℕ → Outcome → ℕ
-place_told macros (Limit which at) = at - macros
-place_told macros outcome = 0
+abbrev pub place_reported : ℕ → Outcome → ℕ
+place_reported macros (Limit which at) = at - macros
+place_reported macros outcome = 0

@@ -12,8 +12,8 @@ use Rattle.tbl_reader.specs.declared.complaint.Kind.{Kind}
 use Rattle.tbl_reader.specs.declared.complaint.Kind.TheVariants as kinds
 use Rattle.tbl_reader.specs.declared.running.Outcome.{Outcome}
 use Rattle.tbl_reader.specs.declared.running.Outcome.TheVariants.{Done, ReadFault, TooLong, WriteFault}
-use Rattle.nulbiko.specs.Told.{IsHanded, code_within, whole_text}
-use Rattle.nulbiko.specs.declared.told.Report.{Report}
+use Rattle.nulbiko.specs.Reported.{IsHanded, code_within, whole_text}
+use Rattle.nulbiko.specs.declared.reported.Report.{Report}
 
 -- the number of an outcome
 abbrev pub code_of : Outcome → ℕ

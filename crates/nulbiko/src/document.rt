@@ -7,7 +7,7 @@ ghost use Rattle.tbl_setting.specs.Drawing.{signs_of};
 ghost use Rattle.tbl_stage.specs.Memory.{memory_of};
 ghost use Rattle.tbl_stage.specs.Text.{bounds_in};
 ghost use Rattle.nulbiko.specs.Formatting.{bounds_of};
-ghost use Rattle.nulbiko.specs.Told.{nothing_told};
+ghost use Rattle.nulbiko.specs.Reported.{nothing_reported};
 ghost use Rattle.nulbiko.specs.Document as specs;
 ghost use Rattle.nulbiko.specs.Document.{AreSet, IsAllowed, PrintsDocument, sets_of, table_for, tables_by};
 ghost use Rattle.nulbiko.specs.Own.{AreShort, PrintsPage, asks_for_own, stages_of};
@@ -17,8 +17,8 @@ use super::formatting::{TextLimits, TextOptions, options_of};
 use super::own::{own_cells, prepare as prepare_own, print_own};
 use super::pages::{Pages, hand_over};
 use super::printed::{Memory, code, form_of, print_pages, report_of};
+use super::reported::{OUT_OF_MEMORY, OUT_OF_RANGE, Report, code_within};
 use super::tables::table_of;
-use super::told::{OUT_OF_MEMORY, OUT_OF_RANGE, Report, code_within};
 use super::utf8::look;
 use arrayvec::ArrayVec;
 use document_printing::{PageLimits, Rooms, Setup, Stages};
@@ -216,17 +216,17 @@ fn print_document(
     macros: &[u8],
     page: &[u8],
     output: &mut [u8],
-    told: &mut Report,
+    reported: &mut Report,
 ) -> u32
     ensures printed { prepared.sets ≡ sets_of setup.now page.now → prepared.characters ≡ table_for setup.now.options.table page.now →
         ⟦<Pages as Sink>⟧.held prepared.pages ≡ Some [] →
         prepared.memory.desk ≡ bounds_of setup.now.limits →
         bounds_in prepared.memory.rooms ≡ tables_by setup.now prepared.sets (signs_of prepared.characters) →
         IsShort page.now (man_of setup.now.options.mdoc page.now) →
-        PrintsDocument setup.now macros.now page.now output.new told.new result }
+        PrintsDocument setup.now macros.now page.now output.new reported.new result }
     ensures not_range { result ≢ 2 }
     ensures not_memory { result ≢ 5 }
-    ensures rest { drop told.new.written output.new ≡ drop told.new.written output.old }
+    ensures rest { drop reported.new.written output.new ≡ drop reported.new.written output.old }
 {
     let Prepared {
         sets,
@@ -257,7 +257,7 @@ fn print_document(
     } = set;
     let bytes = pages.as_slice();
     let written = hand_over(bytes, output);
-    *told = report_of(printed, written, macros.len());
+    *reported = report_of(printed, written, macros.len());
     code_within(code(printed.outcome), bytes.len(), output.len())
 }
 
@@ -308,16 +308,16 @@ pub extern "C" fn nulbiko_document_lent(
     macros: &[u8],
     page: &[u8],
     output: &mut [u8],
-    told: &mut Report,
+    reported: &mut Report,
 ) -> u32
     ensures ranges { (result ≡ 2) ↔ (IsAllowed setup.now → ⊥) }
     ensures printed { result ≢ 2 → result ≢ 5 → AreShort setup.now (text_of page.now)
-        → PrintsPage setup.now macros.now (text_of page.now) output.new told.new result }
-    ensures bad { result ≡ 2 → (output.new ≡ output.old) × (told.new ≡ nothing_told) }
-    ensures no_memory { result ≡ 5 → (output.new ≡ output.old) × (told.new ≡ nothing_told) }
-    ensures rest { drop told.new.written output.new ≡ drop told.new.written output.old }
+        → PrintsPage setup.now macros.now (text_of page.now) output.new reported.new result }
+    ensures bad { result ≡ 2 → (output.new ≡ output.old) × (reported.new ≡ nothing_reported) }
+    ensures no_memory { result ≡ 5 → (output.new ≡ output.old) × (reported.new ≡ nothing_reported) }
+    ensures rest { drop reported.new.written output.new ≡ drop reported.new.written output.old }
 {
-    *told = Report::nothing();
+    *reported = Report::nothing();
     let Some(limits) = limits_of(setup) else {
         return OUT_OF_RANGE;
     };
@@ -334,11 +334,11 @@ pub extern "C" fn nulbiko_document_lent(
     let room = output.len();
     match own {
         Some(cells) => match prepare_own(&mut counted, limits, setup, &text, cells, room) {
-            Ok(prepared) => print_own(prepared, setup, macros, &text, output, told),
+            Ok(prepared) => print_own(prepared, setup, macros, &text, output, reported),
             Err(_) => OUT_OF_MEMORY,
         },
         None => match prepare(&mut counted, limits, setup, &text, characters, room) {
-            Ok(prepared) => print_document(prepared, setup, macros, &text, output, told),
+            Ok(prepared) => print_document(prepared, setup, macros, &text, output, reported),
             Err(_) => OUT_OF_MEMORY,
         },
     }

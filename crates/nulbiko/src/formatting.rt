@@ -2,15 +2,15 @@
 ghost use Rattle.std.specs.Prelude.{◌≡◌, ◌≢◌, ◌↔◌, ◌+◌, drop, length, IfOk, OnErr};
 ghost use Rattle.nr_machine.specs.Lengths.{sizes_of, sum_of};
 ghost use Rattle.nr_options.specs.Limits.{AreLimits};
-ghost use Rattle.nulbiko.specs.Told.{count_told, nothing_told};
-ghost use Rattle.nulbiko.specs.Formatting.{AreAsked, FormatsText, bounds_of, code_of, faces_of, limit_number, limit_told, place_told};
+ghost use Rattle.nulbiko.specs.Reported.{count_reported, nothing_reported};
+ghost use Rattle.nulbiko.specs.Formatting.{AreAsked, FormatsText, bounds_of, code_of, faces_of, limit_number, limit_reported, place_reported};
 
 use super::pages::{Pages, hand_over};
-use super::text::Text;
-use super::told::{
+use super::reported::{
     DONE, FULL, LIMIT, OUT_OF_MEMORY, OUT_OF_RANGE, Report, TOO_LONG, UNREADABLE, code_within,
-    count_told,
+    count_reported,
 };
+use super::text::Text;
 use nr_engine::{CountedAlloc, Desk, Faces, Limits, Measure, Options, Outcome, format};
 use std::alloc::{AllocError, Global};
 
@@ -72,9 +72,9 @@ fn code(outcome: Outcome) -> u32
 /// What is reported of a run of so many moves that wrote so many bytes.
 fn report_of(outcome: Outcome, written: usize, moves: u128) -> Report
     ensures written { result.written ≡ written }
-    ensures moves { result.moves ≡ count_told moves }
-    ensures limit { result.limit ≡ limit_told outcome }
-    ensures place { result.at ≡ place_told outcome }
+    ensures moves { result.moves ≡ count_reported moves }
+    ensures limit { result.limit ≡ limit_reported outcome }
+    ensures place { result.at ≡ place_reported outcome }
     ensures none_dropped { result.dropped ≡ 0 }
     ensures no_line { result.line ≡ 0 }
 {
@@ -85,7 +85,7 @@ fn report_of(outcome: Outcome, written: usize, moves: u128) -> Report
     Report {
         written,
         at,
-        moves: count_told(moves),
+        moves: count_reported(moves),
         limit,
         dropped: 0,
         line: 0,
@@ -119,14 +119,14 @@ fn run_desk(
     asked: TextOptions,
     input: &[u8],
     output: &mut [u8],
-    told: &mut Report,
+    reported: &mut Report,
 ) -> Result<u32, AllocError>
-    ensures formatted { IfOk result (λ code. FormatsText desk.old asked input.now output.new told.new code) }
+    ensures formatted { IfOk result (λ code. FormatsText desk.old asked input.now output.new reported.new code) }
     ensures taken { IfOk result (λ code. alloc.new ≡ alloc.old + length output.old) }
     ensures not_range { IfOk result (λ code. code ≢ 2) }
     ensures not_memory { IfOk result (λ code. code ≢ 5) }
-    ensures untouched { OnErr result ((output.new ≡ output.old) × (told.new ≡ told.old)) }
-    ensures rest { drop told.new.written output.new ≡ drop told.new.written output.old }
+    ensures untouched { OnErr result ((output.new ≡ output.old) × (reported.new ≡ reported.old)) }
+    ensures rest { drop reported.new.written output.new ≡ drop reported.new.written output.old }
 {
     let mut pages = Pages::new(alloc, output.len())?;
     let options = options_of(asked);
@@ -135,7 +135,7 @@ fn run_desk(
     let outcome = format(desk.lend(), &options, &mut text, &mut pages, &mut moves);
     let bytes = pages.as_slice();
     let written = hand_over(bytes, output);
-    *told = report_of(outcome, written, moves);
+    *reported = report_of(outcome, written, moves);
     Ok(code_within(code(outcome), bytes.len(), output.len()))
 }
 
@@ -146,17 +146,17 @@ fn format_text(
     asked: TextOptions,
     input: &[u8],
     output: &mut [u8],
-    told: &mut Report,
+    reported: &mut Report,
 ) -> Result<u32, AllocError>
-    ensures formatted { IfOk result (λ code. FormatsText limits asked input.now output.new told.new code) }
+    ensures formatted { IfOk result (λ code. FormatsText limits asked input.now output.new reported.new code) }
     ensures taken { IfOk result (λ code. alloc.new ≡ alloc.old + sum_of (sizes_of limits) + length output.old) }
     ensures not_range { IfOk result (λ code. code ≢ 2) }
     ensures not_memory { IfOk result (λ code. code ≢ 5) }
-    ensures untouched { OnErr result ((output.new ≡ output.old) × (told.new ≡ told.old)) }
-    ensures rest { drop told.new.written output.new ≡ drop told.new.written output.old }
+    ensures untouched { OnErr result ((output.new ≡ output.old) × (reported.new ≡ reported.old)) }
+    ensures rest { drop reported.new.written output.new ≡ drop reported.new.written output.old }
 {
     let mut desk = Desk::new(alloc, limits)?;
-    run_desk(alloc, &mut desk, asked, input, output, told)
+    run_desk(alloc, &mut desk, asked, input, output, reported)
 }
 
 /// Formats a text under limits into a buffer, reports how it went, and gives the number of the outcome: 0 done, 1 a limit would
@@ -177,16 +177,16 @@ pub extern "C" fn nulbiko_format_lent(
     options: &TextOptions,
     input: &[u8],
     output: &mut [u8],
-    told: &mut Report,
+    reported: &mut Report,
 ) -> u32
     ensures ranges { (result ≡ 2) ↔ (AreLimits (bounds_of limits.now) → ⊥) }
     ensures formatted { result ≢ 2 → result ≢ 5
-        → FormatsText (bounds_of limits.now) options.now input.now output.new told.new result }
-    ensures bad { result ≡ 2 → (output.new ≡ output.old) × (told.new ≡ nothing_told) }
-    ensures no_memory { result ≡ 5 → (output.new ≡ output.old) × (told.new ≡ nothing_told) }
-    ensures rest { drop told.new.written output.new ≡ drop told.new.written output.old }
+        → FormatsText (bounds_of limits.now) options.now input.now output.new reported.new result }
+    ensures bad { result ≡ 2 → (output.new ≡ output.old) × (reported.new ≡ nothing_reported) }
+    ensures no_memory { result ≡ 5 → (output.new ≡ output.old) × (reported.new ≡ nothing_reported) }
+    ensures rest { drop reported.new.written output.new ≡ drop reported.new.written output.old }
 {
-    *told = Report::nothing();
+    *reported = Report::nothing();
     let Some(bounds) = Limits::new(
         limits.stored,
         limits.depth,
@@ -197,7 +197,7 @@ pub extern "C" fn nulbiko_format_lent(
         return OUT_OF_RANGE;
     };
     let mut counted = CountedAlloc::new(alloc);
-    match format_text(&mut counted, bounds, *options, input, output, told) {
+    match format_text(&mut counted, bounds, *options, input, output, reported) {
         Ok(code) => code,
         Err(_) => OUT_OF_MEMORY,
     }

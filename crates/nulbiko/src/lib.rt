@@ -2,7 +2,7 @@
 //! preconv_converter, mdoc_converter, tbl_setting and utf8_converter. `include/nulbiko.h` declares them for C.
 //!
 //! It stands on these, document_reader, utf8_own_page, utf8_own_characters, document_stages, tbl_reader, preconv_coding, utf8_characters, nr_options, nr_vectors and nr_units. To read: `text`,
-//! `coded`, `pages`; `told`, `tables`; `formatting`; `preconv`, `mdoc`, `tbl`, `utf8`; `printed`, `document`, `own`.
+//! `coded`, `pages`; `reported`, `tables`; `formatting`; `preconv`, `mdoc`, `tbl`, `utf8`; `printed`, `document`, `own`.
 //!
 //! Proved: The library for C. Its contracts are those of its calls `nulbiko_NAME_lent`; those of the header,
 //! `nulbiko_NAME`, are C (include/nulbiko.c; in the plain build Rust, tools/library/nulbiko_c): they test for null
@@ -18,12 +18,12 @@ mod own;
 mod pages;
 mod preconv;
 mod printed;
+mod reported;
 mod tables;
 mod tbl;
 mod text;
-mod told;
 mod utf8;
 
 pub use document::{DocumentOptions, DocumentSetup, TableLimits};
 pub use formatting::{TextLimits, TextOptions};
-pub use told::Report;
+pub use reported::Report;

@@ -1,11 +1,11 @@
 // A page of mdoc(7) is turned into one of man(7), as mdoc does.
 ghost use Rattle.std.specs.Prelude.{◌≡◌, ◌≢◌, drop, IfOk, OnErr};
-ghost use Rattle.nulbiko.specs.Told.{nothing_told};
+ghost use Rattle.nulbiko.specs.Reported.{nothing_reported};
 ghost use Rattle.nulbiko.specs.Mdoc.{TurnsPage, code_of};
 
 use super::pages::{Pages, hand_over};
+use super::reported::{DONE, FULL, OUT_OF_MEMORY, Report, TOO_LONG, UNREADABLE, code_within};
 use super::text::Text;
-use super::told::{DONE, FULL, OUT_OF_MEMORY, Report, TOO_LONG, UNREADABLE, code_within};
 use mdoc_converter::{Block, Outcome, convert};
 use nr_vectors::CountedAlloc;
 use std::alloc::{AllocError, Global};
@@ -35,12 +35,12 @@ fn turn_page(
     alloc: Global,
     input: &[u8],
     output: &mut [u8],
-    told: &mut Report,
+    reported: &mut Report,
 ) -> Result<u32, AllocError>
-    ensures turned { IfOk result (λ code. TurnsPage input.now output.new told.new code) }
+    ensures turned { IfOk result (λ code. TurnsPage input.now output.new reported.new code) }
     ensures not_memory { IfOk result (λ code. code ≢ 5) }
-    ensures untouched { OnErr result ((output.new ≡ output.old) × (told.new ≡ told.old)) }
-    ensures rest { drop told.new.written output.new ≡ drop told.new.written output.old }
+    ensures untouched { OnErr result ((output.new ≡ output.old) × (reported.new ≡ reported.old)) }
+    ensures rest { drop reported.new.written output.new ≡ drop reported.new.written output.old }
 {
     let mut pending = vec![in alloc; 0u8; PENDING_SIZE]?;
     let mut blocks = vec![in alloc; Block::NONE; MOST_BLOCKS]?;
@@ -50,7 +50,7 @@ fn turn_page(
     let outcome = convert(&mut text, &mut pages, &mut blocks, &mut pending, &mut steps);
     let bytes = pages.as_slice();
     let written = hand_over(bytes, output);
-    *told = Report {
+    *reported = Report {
         written,
         at: 0,
         moves: steps,
@@ -73,14 +73,14 @@ pub extern "C" fn nulbiko_mdoc_lent(
     alloc: Global,
     input: &[u8],
     output: &mut [u8],
-    told: &mut Report,
+    reported: &mut Report,
 ) -> u32
-    ensures turned { result ≢ 5 → TurnsPage input.now output.new told.new result }
-    ensures no_memory { result ≡ 5 → (output.new ≡ output.old) × (told.new ≡ nothing_told) }
-    ensures rest { drop told.new.written output.new ≡ drop told.new.written output.old }
+    ensures turned { result ≢ 5 → TurnsPage input.now output.new reported.new result }
+    ensures no_memory { result ≡ 5 → (output.new ≡ output.old) × (reported.new ≡ nothing_reported) }
+    ensures rest { drop reported.new.written output.new ≡ drop reported.new.written output.old }
 {
-    *told = Report::nothing();
-    match turn_page(alloc, input, output, told) {
+    *reported = Report::nothing();
+    match turn_page(alloc, input, output, reported) {
         Ok(code) => code,
         Err(_) => OUT_OF_MEMORY,
     }

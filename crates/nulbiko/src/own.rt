@@ -6,7 +6,7 @@ ghost use Rattle.tbl_stage.specs.Text.{bounds_in};
 ghost use Rattle.utf8_own_characters.specs.Counting.{is_once};
 ghost use Rattle.utf8_own_characters.specs.Ranking.{ranked};
 ghost use Rattle.utf8_own_page.specs.Looking.{counts_of};
-ghost use Rattle.utf8_own_page.specs.Needing.{front_of};
+ghost use Rattle.utf8_own_page.specs.Needing.{prefix_of};
 ghost use Rattle.preconv_converter.specs.declared.target.Target.TheVariants.{Utf8};
 ghost use Rattle.document_reader.specs.Page.{plain_of};
 ghost use Rattle.nulbiko.specs.Document.{page_limits, sets_of, table_for, tables_by};
@@ -19,8 +19,8 @@ use super::document::{
 };
 use super::pages::{Pages, hand_over};
 use super::printed::{Memory, code, print_coded, report_of};
+use super::reported::{Report, code_within};
 use super::text::Text;
-use super::told::{Report, code_within};
 use document_printing::{Rooms, Setup, Stages};
 use document_reader::{Places, read_page};
 use nr_engine::{CountedAlloc, Desk, Limits};
@@ -29,34 +29,34 @@ use preconv_converter::Target;
 use std::alloc::{AllocError, Global};
 use utf8_characters::Table as Fixed;
 use utf8_own_characters::Count;
-use utf8_own_page::{Cells, counted, front_of, lacks, signs_of};
+use utf8_own_page::{Cells, counted, lacks, prefix_of, signs_of};
 
 /// Counts what the first of a page prints beyond ASCII, after what frames are drawn with.
-fn count_front(
+fn count_prefix(
     alloc: Global,
     stages: Stages,
     frames: bool,
-    front: &[u8],
+    prefix: &[u8],
 ) -> Result<Vec<Count>, AllocError>
-    ensures items { LookIsShort stages front.now →
-        IfOk result (λ counts. counts.items ≡ counts_of 4352 frames (plain_of stages Utf8 front.now)) }
+    ensures items { LookIsShort stages prefix.now →
+        IfOk result (λ counts. counts.items ≡ counts_of 4352 frames (plain_of stages Utf8 prefix.now)) }
     ensures once { IfOk result (λ counts. is_once counts.items ≡ true) }
 {
     let mut places = Places::new();
-    let text = Text::over(front);
+    let text = Text::over(prefix);
     let mut page = read_page(text, stages, Target::Utf8, places.lend());
     counted(alloc, &mut page, frames)
 }
 
 /// Counts what a page prints beyond ASCII, and what frames are drawn with.
 fn count_page(alloc: Global, setup: &DocumentSetup, text: &[u8]) -> Result<Vec<Count>, AllocError>
-    ensures items { LookIsShort (specs.stages_of setup.now) (front_of text.now) →
+    ensures items { LookIsShort (specs.stages_of setup.now) (prefix_of text.now) →
         IfOk result (λ counts. counts.items ≡ specs.counts_for setup.now text.now) }
     ensures once { IfOk result (λ counts. is_once counts.items ≡ true) }
 {
     let stages = stages_of(setup);
     let frames = sets_tables(setup, text);
-    count_front(alloc, stages, frames, front_of(text))
+    count_prefix(alloc, stages, frames, prefix_of(text))
 }
 
 /// The characters of a page's own table, where no fixed one has all that it prints.
@@ -127,16 +127,16 @@ pub(crate) fn print_own(
     macros: &[u8],
     text: &[u8],
     output: &mut [u8],
-    told: &mut Report,
+    reported: &mut Report,
 ) -> u32
     ensures printed { prepared.sets ≡ sets_of setup.now text.now →
         ⟦<Pages as Sink>⟧.held prepared.pages ≡ Some [] → prepared.memory.desk ≡ bounds_of setup.now.limits →
         bounds_in prepared.memory.rooms ≡ tables_by setup.now prepared.sets (bounds_in prepared.memory.rooms).tables.signs →
         prepared.cells ≡ ranked (specs.counts_for setup.now text.now) → OwnIsShort setup.now text.now →
-        PrintsOwn setup.now macros.now text.now output.new told.new result }
+        PrintsOwn setup.now macros.now text.now output.new reported.new result }
     ensures not_range { result ≢ 2 }
     ensures not_memory { result ≢ 5 }
-    ensures rest { drop told.new.written output.new ≡ drop told.new.written output.old }
+    ensures rest { drop reported.new.written output.new ≡ drop reported.new.written output.old }
 {
     let Prepared {
         sets,
@@ -157,6 +157,6 @@ pub(crate) fn print_own(
     let (pages, printed) = print_coded(text, &table, escapes, set, &mut memory, pages);
     let bytes = pages.as_slice();
     let written = hand_over(bytes, output);
-    *told = report_of(printed, written, macros.len());
+    *reported = report_of(printed, written, macros.len());
     code_within(code(printed.outcome), bytes.len(), output.len())
 }

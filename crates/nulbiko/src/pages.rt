@@ -74,7 +74,7 @@ impl Sink for Pages {
 /// Proved: Of a caller's buffer what stands after the bytes that are written stays as it was, whatever the outcome.
 /// (`rest` of each call, `hand_over`)
 pub(crate) fn hand_over(bytes: &[u8], output: &mut [u8]) -> usize
-    ensures front { take result output.new ≡ take result bytes.now }
+    ensures prefix { take result output.new ≡ take result bytes.now }
     ensures count { result ≡ min (length bytes.now) (length output.new) }
     ensures rest { drop result output.new ≡ drop result output.old }
 {

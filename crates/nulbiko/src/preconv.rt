@@ -1,15 +1,15 @@
 // A text is read under its coding and turned into the language of the formatter, as preconv does.
 ghost use Rattle.std.specs.Prelude.{◌≡◌, ◌≢◌, ◌↔◌, ◌<◌, drop, IfOk, OnErr};
 ghost use Rattle.nulbiko.specs.Tables.{table_numbered};
-ghost use Rattle.nulbiko.specs.Told.{nothing_told};
+ghost use Rattle.nulbiko.specs.Reported.{nothing_reported};
 ghost use Rattle.nulbiko.specs.Preconv.{TurnsText, code_of};
 
 use super::pages::{Pages, hand_over};
-use super::tables::{MOST_TABLES, table_of};
-use super::text::Text;
-use super::told::{
+use super::reported::{
     DONE, FULL, OUT_OF_MEMORY, OUT_OF_RANGE, Report, TOO_LONG, UNREADABLE, code_within,
 };
+use super::tables::{MOST_TABLES, table_of};
+use super::text::Text;
 use nr_vectors::CountedAlloc;
 use preconv_coding::UnderCoding;
 use preconv_converter::{Outcome, Target, convert};
@@ -39,13 +39,13 @@ fn turn_text(
     table: Option<Table>,
     input: &[u8],
     output: &mut [u8],
-    told: &mut Report,
+    reported: &mut Report,
 ) -> Result<u32, AllocError>
-    ensures turned { IfOk result (λ code. TurnsText table input.now output.new told.new code) }
+    ensures turned { IfOk result (λ code. TurnsText table input.now output.new reported.new code) }
     ensures not_range { IfOk result (λ code. code ≢ 2) }
     ensures not_memory { IfOk result (λ code. code ≢ 5) }
-    ensures untouched { OnErr result ((output.new ≡ output.old) × (told.new ≡ told.old)) }
-    ensures rest { drop told.new.written output.new ≡ drop told.new.written output.old }
+    ensures untouched { OnErr result ((output.new ≡ output.old) × (reported.new ≡ reported.old)) }
+    ensures rest { drop reported.new.written output.new ≡ drop reported.new.written output.old }
 {
     let mut pending = vec![in alloc; 0u8; PENDING_SIZE]?;
     let mut pages = Pages::new(&mut CountedAlloc::new(alloc), output.len())?;
@@ -55,7 +55,7 @@ fn turn_text(
     let outcome = convert(&mut text, &mut pages, target, &mut pending, &mut steps);
     let bytes = pages.as_slice();
     let written = hand_over(bytes, output);
-    *told = Report {
+    *reported = Report {
         written,
         at: 0,
         moves: steps,
@@ -78,20 +78,20 @@ pub extern "C" fn nulbiko_preconv_lent(
     table: u32,
     input: &[u8],
     output: &mut [u8],
-    told: &mut Report,
+    reported: &mut Report,
 ) -> u32
     ensures ranges { (result ≡ 2) ↔ (5 < table) }
     ensures turned { result ≢ 2 → result ≢ 5
-        → TurnsText (table_numbered table) input.now output.new told.new result }
-    ensures bad { result ≡ 2 → (output.new ≡ output.old) × (told.new ≡ nothing_told) }
-    ensures no_memory { result ≡ 5 → (output.new ≡ output.old) × (told.new ≡ nothing_told) }
-    ensures rest { drop told.new.written output.new ≡ drop told.new.written output.old }
+        → TurnsText (table_numbered table) input.now output.new reported.new result }
+    ensures bad { result ≡ 2 → (output.new ≡ output.old) × (reported.new ≡ nothing_reported) }
+    ensures no_memory { result ≡ 5 → (output.new ≡ output.old) × (reported.new ≡ nothing_reported) }
+    ensures rest { drop reported.new.written output.new ≡ drop reported.new.written output.old }
 {
-    *told = Report::nothing();
+    *reported = Report::nothing();
     if table > MOST_TABLES {
         return OUT_OF_RANGE;
     }
-    match turn_text(alloc, table_of(table), input, output, told) {
+    match turn_text(alloc, table_of(table), input, output, reported) {
         Ok(code) => code,
         Err(_) => OUT_OF_MEMORY,
     }

@@ -6,7 +6,7 @@ ghost use Rattle.tbl_stage.specs.Text.{bounds_in};
 ghost use Rattle.document_printing.specs.Document.{Prints, setting_of, source_of};
 ghost use Rattle.utf8_own_characters.specs.Table.{Good};
 ghost use Rattle.document_printing.specs.declared.showing.PageTable.TheVariants as page_tables;
-ghost use Rattle.nulbiko.specs.Told.{count_told};
+ghost use Rattle.nulbiko.specs.Reported.{count_reported};
 ghost use Rattle.document_printing.specs.declared.showing.Spelling.TheVariants as spellings;
 ghost use Rattle.nulbiko.specs.Own.{IsCodedShort, ShowsCoded, coded_setup};
 ghost use Rattle.nulbiko.specs.Printed as specs;
@@ -14,8 +14,8 @@ ghost use Rattle.nulbiko.specs.Printed.{IsPrinted};
 
 use super::formatting::limit_number;
 use super::pages::Pages;
+use super::reported::{DONE, FULL, LIMIT, Report, TOO_LONG, UNREADABLE, count_reported};
 use super::text::Text;
-use super::told::{DONE, FULL, LIMIT, Report, TOO_LONG, UNREADABLE, count_told};
 use document_printing::{
     Outcome, PageTable, Report as Run, Rooms, Setup, Showing, Spelling, Stages, print, print_shown,
 };
@@ -234,9 +234,9 @@ pub(crate) fn code(outcome: Outcome) -> u32
 /// What is reported of a page that was printed after macros of so many bytes, and of which so many were written.
 pub(crate) fn report_of(printed: Printed, written: usize, macros: usize) -> Report
     ensures written { result.written ≡ written }
-    ensures moves { result.moves ≡ count_told printed.moves }
-    ensures limit { result.limit ≡ specs.limit_told printed.outcome }
-    ensures place { result.at ≡ specs.place_told macros printed.outcome }
+    ensures moves { result.moves ≡ count_reported printed.moves }
+    ensures limit { result.limit ≡ specs.limit_reported printed.outcome }
+    ensures place { result.at ≡ specs.place_reported macros printed.outcome }
     ensures dropped { result.dropped ≡ printed.dropped }
     ensures line { result.line ≡ printed.line }
 {
@@ -248,7 +248,7 @@ pub(crate) fn report_of(printed: Printed, written: usize, macros: usize) -> Repo
     Report {
         written,
         at,
-        moves: count_told(printed.moves),
+        moves: count_reported(printed.moves),
         limit,
         dropped: printed.dropped,
         line: printed.line,

@@ -1,16 +1,16 @@
 // The tables of a text become lines, as tbl sets them.
 ghost use Rattle.std.specs.Prelude.{◌≡◌, ◌≢◌, ◌↔◌, ◌+◌, ◌<◌, drop, length, IfOk, OnErr};
 ghost use Rattle.nulbiko.specs.Tables.{table_numbered};
-ghost use Rattle.nulbiko.specs.Told.{nothing_told};
+ghost use Rattle.nulbiko.specs.Reported.{nothing_reported};
 ghost use Rattle.nulbiko.specs.Tbl.{SetsTables, code_of, first_kind, first_line, kind_number, limits};
 ghost use Rattle.tbl_setting.specs.Running.{memory_of};
 
 use super::pages::{Pages, hand_over};
-use super::tables::{MOST_TABLES, table_of};
-use super::text::Text;
-use super::told::{
+use super::reported::{
     DONE, FULL, OUT_OF_MEMORY, OUT_OF_RANGE, Report, TOO_LONG, UNREADABLE, code_within,
 };
+use super::tables::{MOST_TABLES, table_of};
+use super::text::Text;
 use nr_vectors::CountedAlloc;
 use nr_vectors::slice_vec::SliceVec;
 use std::alloc::{AllocError, Global};
@@ -75,14 +75,14 @@ fn set_tables(
     line: usize,
     input: &[u8],
     output: &mut [u8],
-    told: &mut Report,
+    reported: &mut Report,
 ) -> Result<u32, AllocError>
-    ensures set { IfOk result (λ code. SetsTables table line input.now output.new told.new code) }
+    ensures set { IfOk result (λ code. SetsTables table line input.now output.new reported.new code) }
     ensures taken { IfOk result (λ code. alloc.new ≡ alloc.old + memory_of limits + length output.old) }
     ensures not_range { IfOk result (λ code. code ≢ 2) }
     ensures not_memory { IfOk result (λ code. code ≢ 5) }
-    ensures untouched { OnErr result ((output.new ≡ output.old) × (told.new ≡ told.old)) }
-    ensures rest { drop told.new.written output.new ≡ drop told.new.written output.old }
+    ensures untouched { OnErr result ((output.new ≡ output.old) × (reported.new ≡ reported.old)) }
+    ensures rest { drop reported.new.written output.new ≡ drop reported.new.written output.old }
 {
     let mut rooms = Rooms::new(alloc, TABLE, ROW, line, table)?;
     let pages = Pages::new(alloc, output.len())?;
@@ -93,7 +93,7 @@ fn set_tables(
     let (limit, at) = first_wrong(complaints.as_slice());
     let bytes = pages.as_slice();
     let written = hand_over(bytes, output);
-    *told = Report {
+    *reported = Report {
         written,
         at,
         moves: 0,
@@ -115,21 +115,21 @@ pub extern "C" fn nulbiko_tbl_lent(
     line: usize,
     input: &[u8],
     output: &mut [u8],
-    told: &mut Report,
+    reported: &mut Report,
 ) -> u32
     ensures ranges { (result ≡ 2) ↔ (5 < table) }
     ensures set { result ≢ 2 → result ≢ 5
-        → SetsTables (table_numbered table) line input.now output.new told.new result }
-    ensures bad { result ≡ 2 → (output.new ≡ output.old) × (told.new ≡ nothing_told) }
-    ensures no_memory { result ≡ 5 → (output.new ≡ output.old) × (told.new ≡ nothing_told) }
-    ensures rest { drop told.new.written output.new ≡ drop told.new.written output.old }
+        → SetsTables (table_numbered table) line input.now output.new reported.new result }
+    ensures bad { result ≡ 2 → (output.new ≡ output.old) × (reported.new ≡ nothing_reported) }
+    ensures no_memory { result ≡ 5 → (output.new ≡ output.old) × (reported.new ≡ nothing_reported) }
+    ensures rest { drop reported.new.written output.new ≡ drop reported.new.written output.old }
 {
-    *told = Report::nothing();
+    *reported = Report::nothing();
     if table > MOST_TABLES {
         return OUT_OF_RANGE;
     }
     let mut counted = CountedAlloc::new(alloc);
-    match set_tables(&mut counted, table_of(table), line, input, output, told) {
+    match set_tables(&mut counted, table_of(table), line, input, output, reported) {
         Ok(code) => code,
         Err(_) => OUT_OF_MEMORY,
     }

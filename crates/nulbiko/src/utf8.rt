@@ -3,16 +3,16 @@ ghost use Rattle.std.specs.Prelude.{◌≡◌, ◌≢◌, ◌↔◌, drop, IfOk,
 ghost use Rattle.utf8_characters.specs.declared.table.Table.{Table};
 ghost use Rattle.preconv_coding.specs.UnderCoding.{text_of};
 ghost use Rattle.nulbiko.specs.Tables.{table_numbered, unchosen};
-ghost use Rattle.nulbiko.specs.Told.{nothing_told};
+ghost use Rattle.nulbiko.specs.Reported.{nothing_reported};
 ghost use Rattle.nulbiko.specs.Utf8.{ChoosesNumber, TurnsBytes, code_of};
 
 use super::coded::text_of;
 use super::pages::{Pages, hand_over};
-use super::tables::{UNCHOSEN, number_of, table_of};
-use super::text::Text;
-use super::told::{
+use super::reported::{
     DONE, FULL, OUT_OF_MEMORY, OUT_OF_RANGE, Report, TOO_LONG, UNREADABLE, code_within,
 };
+use super::tables::{UNCHOSEN, number_of, table_of};
+use super::text::Text;
 use nr_vectors::CountedAlloc;
 use std::alloc::{AllocError, Global};
 use utf8_characters::Table;
@@ -42,13 +42,13 @@ fn turn_bytes(
     escapes: bool,
     input: &[u8],
     output: &mut [u8],
-    told: &mut Report,
+    reported: &mut Report,
 ) -> Result<u32, AllocError>
-    ensures turned { IfOk result (λ code. TurnsBytes table escapes input.now output.new told.new code) }
+    ensures turned { IfOk result (λ code. TurnsBytes table escapes input.now output.new reported.new code) }
     ensures not_range { IfOk result (λ code. code ≢ 2) }
     ensures not_memory { IfOk result (λ code. code ≢ 5) }
-    ensures untouched { OnErr result ((output.new ≡ output.old) × (told.new ≡ told.old)) }
-    ensures rest { drop told.new.written output.new ≡ drop told.new.written output.old }
+    ensures untouched { OnErr result ((output.new ≡ output.old) × (reported.new ≡ reported.old)) }
+    ensures rest { drop reported.new.written output.new ≡ drop reported.new.written output.old }
 {
     let mut pending = vec![in alloc; 0u8; PENDING_SIZE]?;
     let mut pages = Pages::new(&mut CountedAlloc::new(alloc), output.len())?;
@@ -64,7 +64,7 @@ fn turn_bytes(
     );
     let bytes = pages.as_slice();
     let written = hand_over(bytes, output);
-    *told = Report {
+    *reported = Report {
         written,
         at: 0,
         moves: 0,
@@ -90,20 +90,20 @@ pub extern "C" fn nulbiko_utf8_lent(
     escapes: bool,
     input: &[u8],
     output: &mut [u8],
-    told: &mut Report,
+    reported: &mut Report,
 ) -> u32
     ensures ranges { (result ≡ 2) ↔ (table_numbered table ≡ None) }
     ensures turned { (t : Table) → table_numbered table ≡ Some t → result ≢ 5
-        → TurnsBytes t escapes input.now output.new told.new result }
-    ensures bad { result ≡ 2 → (output.new ≡ output.old) × (told.new ≡ nothing_told) }
-    ensures no_memory { result ≡ 5 → (output.new ≡ output.old) × (told.new ≡ nothing_told) }
-    ensures rest { drop told.new.written output.new ≡ drop told.new.written output.old }
+        → TurnsBytes t escapes input.now output.new reported.new result }
+    ensures bad { result ≡ 2 → (output.new ≡ output.old) × (reported.new ≡ nothing_reported) }
+    ensures no_memory { result ≡ 5 → (output.new ≡ output.old) × (reported.new ≡ nothing_reported) }
+    ensures rest { drop reported.new.written output.new ≡ drop reported.new.written output.old }
 {
-    *told = Report::nothing();
+    *reported = Report::nothing();
     let Some(table) = table_of(table) else {
         return OUT_OF_RANGE;
     };
-    match turn_bytes(alloc, table, escapes, input, output, told) {
+    match turn_bytes(alloc, table, escapes, input, output, reported) {
         Ok(code) => code,
         Err(_) => OUT_OF_MEMORY,
     }

@@ -15,7 +15,7 @@ use Rattle.preconv_coding.specs.declared.sets.Set.{Set}
 use Rattle.preconv_coding.specs.Names.{coding_named}
 use Rattle.preconv_coding.specs.Sets.{character_of, characters_of}
 use Rattle.preconv_coding.specs.Tag.{goes_on, lowered, named, of_name, spelling, line_ended, going, in_value}
-use Rattle.preconv_coding.specs.Part.{told}
+use Rattle.preconv_coding.specs.Part.{decided}
 use Rattle.std.specs.Option.{option_map}
 use Rattle.nr_units.specs.Source.{Supply}
 use Rattle.preconv_coding.specs.declared.tag.Tells.TheVariants.{Reads}
@@ -30,7 +30,7 @@ eight_text set [] = refl
 eight_text set (b ∷ bs) = ap (λ (xs : List ℕ). encode_utf8 (character_of set b) ++ xs) (eight_text set bs)
 
 -- a coding that is named beside the text
-pub coded_is : (coding : Coding) (known : Option Supply) → supply_from (told (Reads coding)) [] known ≡ coded_supply coding known
+pub coded_is : (coding : Coding) (known : Option Supply) → supply_from (decided (Reads coding)) [] known ≡ coded_supply coding known
 coded_is coding None = refl
 coded_is codings.Plain (Some q) = ap (λ (bytes : List ℕ). Some (record { bytes = bytes; faults = text_faults q.faults })) (plain_text q.bytes)
 coded_is (codings.Eight set) (Some q) = ap (λ (bytes : List ℕ). Some (record { bytes = bytes; faults = text_faults q.faults })) (eight_text set q.bytes)
@@ -86,7 +86,7 @@ spelled pre [] rest is few = ap (λ (xs : List ℕ). text_from (Head (value xs))
 spelled pre (b ∷ bs) rest is few =
     let next : List ℕ = pre ++ lowered b ∷ [] in
     let long : length next ≡ length pre + 1 = length-append pre (lowered b ∷ []) in
-    ap (λ (t : Tells). b ∷ text_from (told t) (bs ++ rest)) (spelled_by (goes_on b) (is_full pre) b (value pre) (and-first (goes_on b) (all_go_on bs) is) (not_full pre (omega (arith, few))))
+    ap (λ (t : Tells). b ∷ text_from (decided t) (bs ++ rest)) (spelled_by (goes_on b) (is_full pre) b (value pre) (and-first (goes_on b) (all_go_on bs) is) (not_full pre (omega (arith, few))))
     ∙ ap (λ (xs : List ℕ). b ∷ xs) (spelled next bs rest (and-second (goes_on b) (all_go_on bs) is) (omega (arith, few, long)))
     ∙ ap (λ (xs : List ℕ). b ∷ bs ++ text_from (Head (value xs)) rest) (append_assoc pre (lowered b ∷ []) (all_lowered bs))
 
@@ -99,9 +99,9 @@ no_blank b is = grind (arith, nat_tests)
 
 first_spelled : (b : ℕ) (bs : List ℕ) → goes_on b ≡ true → text_from (Head blanks) (b ∷ bs) ≡ b ∷ text_from (Head (value (lowered b ∷ []))) bs
 first_spelled b bs is =
-    ap (λ (x : Bool). b ∷ text_from (told (if x then line_ended blanks else if b == code " " then going Blanks blanks else in_value b blanks)) bs) (no_newline b is)
-    ∙ ap (λ (x : Bool). b ∷ text_from (told (if x then going Blanks blanks else in_value b blanks)) bs) (no_blank b is)
-    ∙ ap (λ (t : Tells). b ∷ text_from (told t) bs) (spelled_by (goes_on b) false b blanks is refl)
+    ap (λ (x : Bool). b ∷ text_from (decided (if x then line_ended blanks else if b == code " " then going Blanks blanks else in_value b blanks)) bs) (no_newline b is)
+    ∙ ap (λ (x : Bool). b ∷ text_from (decided (if x then going Blanks blanks else in_value b blanks)) bs) (no_blank b is)
+    ∙ ap (λ (t : Tells). b ∷ text_from (decided t) bs) (spelled_by (goes_on b) false b blanks is refl)
 
 few_of : (xs : List ℕ) → nat_le (length xs) 32 ≡ true → length xs ≤ 32
 few_of xs is = grind (arith, nat_tests)
@@ -119,8 +119,8 @@ name_read (b ∷ bs) rest is =
 
 -- ---- the line is read
 
-abbrev front : List ℕ
-front = codes ".\\\" -*- coding: "
+abbrev prefix : List ℕ
+prefix = codes ".\\\" -*- coding: "
 
 abbrev tail : List ℕ
 tail = codes " -*-\n"
@@ -132,22 +132,22 @@ named_is : (full : List ℕ) → 0 < length full → named (value full) ≡ of_n
 named_is full some = if_second (length full == 0) _ _ (is_not_empty full some)
 
 after_name : (full bs : List ℕ) → 0 < length full
-    → text_from (Head (value full)) (code " " ∷ bs) ≡ code " " ∷ text_from (told (of_name (coding_named full) (value full))) bs
-after_name full bs some = ap (λ (t : Tells). code " " ∷ text_from (told t) bs) (named_is full some)
+    → text_from (Head (value full)) (code " " ∷ bs) ≡ code " " ∷ text_from (decided (of_name (coding_named full) (value full))) bs
+after_name full bs some = ap (λ (t : Tells). code " " ∷ text_from (decided t) bs) (named_is full some)
 
 some_lowered : (name : List ℕ) → is_name name ≡ true → 0 < length (all_lowered name)
 some_lowered [] is = absurd (let no : false ≡ true = is in cc)
 some_lowered (b ∷ bs) is = omega arith
 
 line_read : (name bs : List ℕ) → is_name name ≡ true
-    → text_of (line_of name ++ bs) ≡ front ++ name ++ code " " ∷ text_from (told (of_name (coding_named (all_lowered name)) (value (all_lowered name)))) (codes "-*-\n" ++ bs)
+    → text_of (line_of name ++ bs) ≡ prefix ++ name ++ code " " ∷ text_from (decided (of_name (coding_named (all_lowered name)) (value (all_lowered name)))) (codes "-*-\n" ++ bs)
 line_read name bs is =
-    ap (λ (xs : List ℕ). front ++ text_from (Head blanks) xs) (append_assoc name tail bs)
-    ∙ ap (λ (xs : List ℕ). front ++ xs) (name_read name (tail ++ bs) is)
-    ∙ ap (λ (xs : List ℕ). front ++ name ++ xs) (after_name (all_lowered name) (codes "-*-\n" ++ bs) (some_lowered name is))
+    ap (λ (xs : List ℕ). prefix ++ text_from (Head blanks) xs) (append_assoc name tail bs)
+    ∙ ap (λ (xs : List ℕ). prefix ++ xs) (name_read name (tail ++ bs) is)
+    ∙ ap (λ (xs : List ℕ). prefix ++ name ++ xs) (after_name (all_lowered name) (codes "-*-\n" ++ bs) (some_lowered name is))
 
-whole_line : (name bs : List ℕ) → front ++ (name ++ (tail ++ bs)) ≡ line_of name ++ bs
-whole_line name bs = ap (λ (xs : List ℕ). front ++ xs) (sym (append_assoc name tail bs))
+whole_line : (name bs : List ℕ) → prefix ++ (name ++ (tail ++ bs)) ≡ line_of name ++ bs
+whole_line name bs = ap (λ (xs : List ℕ). prefix ++ xs) (sym (append_assoc name tail bs))
 
 rest_in_set : (set : Set) (bs : List ℕ) → code " " ∷ text_from (Eight set) (codes "-*-\n" ++ bs) ≡ tail ++ encode_utf8_all (characters_of set bs)
 unfolding encode_utf8
@@ -156,11 +156,11 @@ rest_in_set set bs = ap (λ (xs : List ℕ). code " " ∷ xs) (eight_text set (c
 pub sets_are_read : SetsAreRead
 sets_are_read name set bs is known =
     line_read name bs is
-    ∙ ap (λ (r : Option Coding). front ++ name ++ code " " ∷ text_from (told (of_name r (value (all_lowered name)))) (codes "-*-\n" ++ bs)) known
-    ∙ ap (λ (xs : List ℕ). front ++ name ++ xs) (rest_in_set set bs)
+    ∙ ap (λ (r : Option Coding). prefix ++ name ++ code " " ∷ text_from (decided (of_name r (value (all_lowered name)))) (codes "-*-\n" ++ bs)) known
+    ∙ ap (λ (xs : List ℕ). prefix ++ name ++ xs) (rest_in_set set bs)
     ∙ whole_line name (encode_utf8_all (characters_of set bs))
 
-others_by : (r : Option Coding) (h : Heads) (bs : List ℕ) → is_no_set r ≡ true → text_from (told (of_name r h)) bs ≡ bs
+others_by : (r : Option Coding) (h : Heads) (bs : List ℕ) → is_no_set r ≡ true → text_from (decided (of_name r h)) bs ≡ bs
 others_by None h bs is = unknown_text h bs
 others_by (Some codings.Plain) h bs is = plain_text bs
 others_by (Some (codings.Eight set)) h bs is = absurd (let no : false ≡ true = is in cc)
@@ -168,5 +168,5 @@ others_by (Some (codings.Eight set)) h bs is = absurd (let no : false ≡ true =
 pub others_stay : OthersStay
 others_stay name bs is none =
     line_read name bs is
-    ∙ ap (λ (xs : List ℕ). front ++ name ++ code " " ∷ xs) (others_by (coding_named (all_lowered name)) (value (all_lowered name)) (codes "-*-\n" ++ bs) none)
+    ∙ ap (λ (xs : List ℕ). prefix ++ name ++ code " " ∷ xs) (others_by (coding_named (all_lowered name)) (value (all_lowered name)) (codes "-*-\n" ++ bs) none)
     ∙ whole_line name bs

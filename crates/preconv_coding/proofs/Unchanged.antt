@@ -7,7 +7,7 @@ use Rattle.preconv_coding.specs.declared.part.Part.TheVariants.{Mark, Head}
 use Rattle.preconv_coding.specs.declared.part.Step.{Step}
 use Rattle.preconv_coding.specs.declared.tag.Tag.TheVariants.{Key, Blanks}
 use Rattle.preconv_coding.specs.Tag.{key_read, after_key, line_ended}
-use Rattle.preconv_coding.specs.Part.{told, plain, first, silent}
+use Rattle.preconv_coding.specs.Part.{decided, plain, first, silent}
 use Rattle.preconv_coding.specs.UnderCoding.{text_from}
 use Rattle.preconv_coding.specs.Laws.{names_nothing, PlainStays}
 use Rattle.preconv_coding.proofs.Giving.{plain_text}
@@ -48,7 +48,7 @@ not_whole j few = grind (arith, nat_tests)
 
 -- what stands after a byte of these lines, by whether it is a newline
 abbrev pub after_byte : Bool → Bool → ℕ → ℕ → Part
-after_byte x second k b = told (if x then line_ended (record { second = second; tag = Key k; name = [] }) else after_key (key_read k b) (record { second = second; tag = Key k; name = [] }))
+after_byte x second k b = decided (if x then line_ended (record { second = second; tag = Key k; name = [] }) else after_key (key_read k b) (record { second = second; tag = Key k; name = [] }))
 
 and-both : (x y : Bool) → (not x && y) ≡ true → (x ≡ false) × (y ≡ true)
 and-both false y e = (refl, e)

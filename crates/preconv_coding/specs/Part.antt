@@ -16,15 +16,15 @@ use Rattle.preconv_coding.specs.Wide as wides
 abbrev pub plain : Part → List ℕ → Step
 plain part bytes = record { part = part; text = bytes }
 
-abbrev pub told : Tells → Part
-told (tells.More head) = Head head
-told (tells.Reads codings.Plain) = Plain
-told (tells.Reads (codings.Eight set)) = Eight set
-told (tells.Unknown head) = Unknown head
+abbrev pub decided : Tells → Part
+decided (tells.More head) = Head head
+decided (tells.Reads codings.Plain) = Plain
+decided (tells.Reads (codings.Eight set)) = Eight set
+decided (tells.Unknown head) = Unknown head
 
 -- the first byte of a text without a mark
 abbrev pub first : ℕ → Part
-first b = told (tags.taken b tags.first_head)
+first b = decided (tags.taken b tags.first_head)
 
 abbrev pub silent : Part → Step
 silent part = record { part = part; text = [] }
@@ -47,7 +47,7 @@ abbrev pub taken : ℕ → Part → Step
 taken b Start = if is_marking b then silent (Mark b) else plain (first b) (b ∷ [])
 taken b (Mark a) = after_mark a b
 taken b LongMark = if b == 0xBF then silent Plain else plain Plain (0xEF ∷ 0xBB ∷ b ∷ [])
-taken b (Head head) = plain (told (tags.taken b head)) (b ∷ [])
+taken b (Head head) = plain (decided (tags.taken b head)) (b ∷ [])
 taken b Plain = plain Plain (b ∷ [])
 taken b (Unknown head) = plain (Unknown head) (b ∷ [])
 taken b (Eight set) = plain (Eight set) (encode_utf8 (character_of set b))

@@ -102,8 +102,8 @@ fn without<'a>(ending: &[u8], name: &'a [u8]) -> &'a [u8]
     if name.len() < ending.len() {
         return name;
     }
-    let (front, back) = name.split_at(name.len() - ending.len());
-    if back == ending { front } else { name }
+    let (prefix, back) = name.split_at(name.len() - ending.len());
+    if back == ending { prefix } else { name }
 }
 
 /// A name without what tells how lines end, and without a `-` of `-*-` that stands right after it.

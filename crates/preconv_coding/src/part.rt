@@ -50,8 +50,8 @@ fn plain(part: Part, bytes: &[u8]) -> Step
 }
 
 /// What stands after a byte of the first two lines.
-pub(super) fn told(tells: Tells) -> Part
-    ensures { result ≡ specs.told tells }
+pub(super) fn decided(tells: Tells) -> Part
+    ensures { result ≡ specs.decided tells }
 {
     match tells {
         Tells::More(head) => Part::Head(head),
@@ -65,7 +65,7 @@ pub(super) fn told(tells: Tells) -> Part
 fn first(byte: u8) -> Part
     ensures { result ≡ specs.first byte }
 {
-    told(Head::new().takes(byte))
+    decided(Head::new().takes(byte))
 }
 
 /// The text goes on so.
@@ -101,7 +101,7 @@ impl Part {
             Part::LongMark if byte == 0xBF => silent(Part::Plain),
             Part::LongMark => plain(Part::Plain, &[0xEF, 0xBB, byte]),
             Part::Start => plain(first(byte), &[byte]),
-            Part::Head(head) => plain(told(head.takes(byte)), &[byte]),
+            Part::Head(head) => plain(decided(head.takes(byte)), &[byte]),
             Part::Plain => plain(Part::Plain, &[byte]),
             Part::Unknown(head) => plain(Part::Unknown(head), &[byte]),
             Part::Eight(set) => Step {

@@ -2,7 +2,7 @@
 ghost use Rattle.std.specs.Prelude.{◌≡◌};
 
 use super::names::Coding;
-use super::part::{Part, told};
+use super::part::{Part, decided};
 use super::tag::Tells;
 use nr_units::Name;
 use nr_units::source::{Fault, Source};
@@ -76,7 +76,7 @@ impl<S: Source + Drop> UnderCoding<S> {
     {
         UnderCoding {
             source,
-            part: told(Tells::Reads(coding)),
+            part: decided(Tells::Reads(coding)),
             ready: Name::new(),
         }
     }

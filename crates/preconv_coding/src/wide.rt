@@ -54,11 +54,11 @@ pub(crate) fn utf8_of(character: char) -> Name
 }
 
 /// One text after another.
-fn joined(front: Name, rest: &[u8]) -> Name
-    requires { length front + length rest.now ≤ 32 }
-    ensures { result ≡ front ++ rest.now }
+fn joined(prefix: Name, rest: &[u8]) -> Name
+    requires { length prefix + length rest.now ≤ 32 }
+    ensures { result ≡ prefix ++ rest.now }
 {
-    let mut text = front;
+    let mut text = prefix;
     for byte in rest {
         text.push(*byte);
     }

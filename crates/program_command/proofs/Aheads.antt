@@ -84,7 +84,7 @@ document job around old new q ending a b known d = record {
   options_are = d.options_are;
   report = d.report;
   printed = d.printed;
-  told = d.told;
+  reported = d.reported;
 }
 
 ends : (others : Bool) (job : Asked) (around : Surroundings) (old new : Option Supply) (q : Supply) (ending : Ending) (a b : Option (List ℕ)) → Implies old new

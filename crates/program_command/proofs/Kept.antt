@@ -15,7 +15,7 @@ use Rattle.program_options.specs.Job.{Asked}
 use Rattle.program_command.specs.Own.{needs_own}
 use Rattle.program_command.specs.Printing.{Given, ShowsBy}
 use Rattle.program_command.specs.Program.{IsOfRun}
-use Rattle.program_command.specs.Running.{EndsBefore, EndsBy, IsDocument, IsTold, Runs, is_for_others}
+use Rattle.program_command.specs.Running.{EndsBefore, EndsBy, IsDocument, IsReported, Runs, is_for_others}
 use Rattle.program_command.specs.declared.endings.Ending.{Ending}
 use Rattle.program_command.specs.declared.endings.Ending.TheVariants as endings
 use Rattle.program_command.specs.declared.plan.Plan.{Plan}
@@ -36,7 +36,7 @@ pub Keeps-same : {S : Type 0} → (held : S → Option (List ℕ)) (a b : S) →
 Keeps-same {S} held a b same = subst (λ (s : S). Keeps (held a) (held s)) (sym same) (Keeps-refl (held a))
 
 AppendsPrefix-kept : (a b c : Option (List ℕ)) (bs : List ℕ) → AppendsPrefix a b bs → Keeps b c → AppendsPrefix a c bs
-AppendsPrefix-kept a b c bs (front, rest, is, grown) q = (front, rest, is, Appends-kept a b c front grown q)
+AppendsPrefix-kept a b c bs (prefix, rest, is, grown) q = (prefix, rest, is, Appends-kept a b c prefix grown q)
 
 IsShown-kept : (s : Setting) (spelling : Spelling) (source : Supply) (n : ℕ) (ended : machine.Outcome) (a b c : Option (List ℕ))
     → IsShown s spelling source n ended a b → Keeps b c → IsShown s spelling source n ended a c
@@ -55,7 +55,7 @@ Shows-kept s spelling source n TooLong a b c shows q = AppendsPrefix-kept a b c 
 Shows-kept s spelling source n WriteFault a b c shows q = record {
   made = shows.made;
   few = shows.few;
-  front = AppendsPrefix-kept a b c _ shows.front q;
+  prefix = AppendsPrefix-kept a b c _ shows.prefix q;
 }
 
 ShowsBy-kept : (needs : Bool) (plan : Plan) (first : List ℕ) (given : Given) (page : Supply) (report : Report) (a b c : Option (List ℕ))
@@ -68,10 +68,10 @@ ShowsBy-kept true plan first given page report a b c shows q = record {
 }
 ShowsBy-kept false plan first given page report a b c shows q = record { shows = Shows-kept _ _ _ report.moves report.outcome a b c shows.shows q }
 
-IsDocument-kept : (job : Asked) (around : Surroundings) (files : Option Supply) (page : Supply) (ending told : Ending) (a b c : Option (List ℕ))
-    → ((report : Report) (name unshown : List ℕ) → IsTold name unshown report ending → IsTold name unshown report told)
-    → IsDocument job around files page ending a b → Keeps b c → IsDocument job around files page told a c
-IsDocument-kept job around files page ending told a b c tells document q = record {
+IsDocument-kept : (job : Asked) (around : Surroundings) (files : Option Supply) (page : Supply) (ending reported : Ending) (a b c : Option (List ℕ))
+    → ((report : Report) (name unshown : List ℕ) → IsReported name unshown report ending → IsReported name unshown report reported)
+    → IsDocument job around files page ending a b → Keeps b c → IsDocument job around files page reported a c
+IsDocument-kept job around files page ending reported a b c tells document q = record {
   first = document.first;
   rest = document.rest;
   looked_at = document.looked_at;
@@ -83,7 +83,7 @@ IsDocument-kept job around files page ending told a b c tells document q = recor
   options_are = document.options_are;
   report = document.report;
   printed = ShowsBy-kept (needs_own document.plan document.first) document.plan document.first _ page document.report a b c document.printed q;
-  told = tells document.report _ _ document.told;
+  reported = tells document.report _ _ document.reported;
 }
 
 -- ---- the output is flushed
@@ -93,8 +93,8 @@ EndsBefore-kept ending a b c ends q = record { before = ends.before; kept = Keep
 
 EndsBy-kept : (others : Bool) (job : Asked) (around : Surroundings) (files : Option Supply) (page : Supply) (ending : Ending) (a b c : Option (List ℕ))
     → EndsBy others job around files page ending a b → Keeps b c → EndsBy others job around files page ending a c
-EndsBy-kept true job around files page ending a b c ends q = record { told = ends.told; kept = Keeps-trans a b c ends.kept q }
-EndsBy-kept false job around files page ending a b c ends q = IsDocument-kept job around files page ending ending a b c (λ report name unshown told. told) ends q
+EndsBy-kept true job around files page ending a b c ends q = record { reported = ends.reported; kept = Keeps-trans a b c ends.kept q }
+EndsBy-kept false job around files page ending a b c ends q = IsDocument-kept job around files page ending ending a b c (λ report name unshown reported. reported) ends q
 
 ends-kept : (job : Asked) (around : Surroundings) (files : Option Supply) (first : List ℕ) (page : Supply) (ending : Ending) (a b c : Option (List ℕ))
     → (EndsBefore ending a b ⊎ EndsBy (is_for_others job first) job around files page ending a b) → Keeps b c
@@ -120,7 +120,7 @@ EndsBy-failed : (others : Bool) (job : Asked) (around : Surroundings) (files : O
     → EndsBy others job around files page ending a b → Keeps b c → EndsBefore endings.WriteFault a c ⊎ EndsBy others job around files page endings.WriteFault a c
 EndsBy-failed true job around files page ending a b c ends q = inl (record { before = tt; kept = Keeps-trans a b c ends.kept q })
 EndsBy-failed false job around files page ending a b c ends q =
-    inr (IsDocument-kept job around files page ending endings.WriteFault a b c (λ report name unshown told. tt) ends q)
+    inr (IsDocument-kept job around files page ending endings.WriteFault a b c (λ report name unshown reported. tt) ends q)
 
 ends-failed : (job : Asked) (around : Surroundings) (files : Option Supply) (first : List ℕ) (page : Supply) (ending : Ending) (a b c : Option (List ℕ))
     → (EndsBefore ending a b ⊎ EndsBy (is_for_others job first) job around files page ending a b) → Keeps b c

@@ -5,19 +5,19 @@ use Rattle.document_printing.specs.declared.setup.Outcome.TheVariants as outcome
 use Rattle.document_printing.specs.declared.setup.Report.{Report}
 use Rattle.program_options.specs.Job.{Asked}
 use Rattle.program_command.specs.Program.{IsOfRun}
-use Rattle.program_command.specs.Running.{EndsBefore, EndsBy, IsBefore, IsDocument, IsLeftOut, IsTold, IsWhole, MayLeaveOut, Runs, first_of, is_for_others}
+use Rattle.program_command.specs.Running.{EndsBefore, EndsBy, IsBefore, IsDocument, IsLeftOut, IsReported, IsWhole, MayLeaveOut, Runs, first_of, is_for_others}
 use Rattle.program_command.specs.declared.endings.Ending.{Ending}
 use Rattle.program_command.specs.declared.endings.Ending.TheVariants.{Done, LeftOut, Unshown}
 use Rattle.program_command.specs.declared.surroundings.Surroundings.{Surroundings}
 
-told-left : (name unshown : List ℕ) (report : Report) (after : Ending) → IsLeftOut name after → report.outcome ≡ outcomes.Done → IsTold name unshown report after
-told-left name unshown report (LeftOut place why) left is = (is, left)
-told-left name unshown report other left is = absurd left
+reported-left : (name unshown : List ℕ) (report : Report) (after : Ending) → IsLeftOut name after → report.outcome ≡ outcomes.Done → IsReported name unshown report after
+reported-left name unshown report (LeftOut place why) left is = (is, left)
+reported-left name unshown report other left is = absurd left
 
-told-whole : (name unshown : List ℕ) (report : Report) (before : Ending) → IsWhole before → IsTold name unshown report before → report.outcome ≡ outcomes.Done
-told-whole name unshown report Done whole told = told.0
-told-whole name unshown report (Unshown first names) whole told = told.0
-told-whole name unshown report other whole told = absurd whole
+reported-whole : (name unshown : List ℕ) (report : Report) (before : Ending) → IsWhole before → IsReported name unshown report before → report.outcome ≡ outcomes.Done
+reported-whole name unshown report Done whole reported = reported.0
+reported-whole name unshown report (Unshown first names) whole reported = reported.0
+reported-whole name unshown report other whole reported = absurd whole
 
 document-left : (job : Asked) (around : Surroundings) (macros : Option Supply) (q : Supply) (before after : Ending) (a b : Option (List ℕ))
     → IsWhole before → IsLeftOut (first_of job.files) after → IsDocument job around macros q before a b → IsDocument job around macros q after a b
@@ -33,12 +33,12 @@ document-left job around macros q before after a b whole left d = record {
   options_are = d.options_are;
   report = d.report;
   printed = d.printed;
-  told = told-left (first_of job.files) _ d.report after left (told-whole (first_of job.files) _ d.report before whole d.told);
+  reported = reported-left (first_of job.files) _ d.report after left (reported-whole (first_of job.files) _ d.report before whole d.reported);
 }
 
 ends-left : (others : Bool) (job : Asked) (around : Surroundings) (macros : Option Supply) (q : Supply) (before after : Ending) (a b : Option (List ℕ))
     → IsWhole before → IsLeftOut (first_of job.files) after → EndsBy others job around macros q before a b → EndsBy others job around macros q after a b
-ends-left true job around macros q before after a b whole left ends = absurd (subst IsWhole ends.told whole)
+ends-left true job around macros q before after a b whole left ends = absurd (subst IsWhole ends.reported whole)
 ends-left false job around macros q before after a b whole left ends = document-left job around macros q before after a b whole left ends
 
 not-both : (before : Ending) → IsWhole before → IsBefore before → ⊥

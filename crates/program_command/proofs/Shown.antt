@@ -72,9 +72,9 @@ needs-not plan first may is none = ap (λ (b : Bool). b && lacks plan.characters
 
 pub needs-as : (plan : Plan) (first : List ℕ) (counts : List Count) (may lacking r : Bool) → may ≡ may_need_own plan first → may ≡ true
     → lacking ≡ lacks plan.characters counts → lacking ≡ r → counts ≡ counts_of plan first → needs_own plan first ≡ r
-needs-as plan first counts may lacking r is all told same are =
+needs-as plan first counts may lacking r is all reported same are =
     ap (λ (b : Bool). b && lacks plan.characters (counts_of plan first)) (sym is ∙ all)
-    ∙ ap (λ (xs : List Count). lacks plan.characters xs) (sym are) ∙ sym told ∙ same
+    ∙ ap (λ (xs : List Count). lacks plan.characters xs) (sym are) ∙ sym reported ∙ same
 
 pub Printed-fixed : (plan : Plan) (first : List ℕ) (given : Given) (q : Supply) (report : Report) (held new : Option (List ℕ)) (own : Option (List Count))
     → own ≡ None → HasOwn plan first own → FixedShows plan given q report held new → Printed plan first given q report held new

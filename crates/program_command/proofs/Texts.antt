@@ -23,7 +23,7 @@ use Rattle.program_plan.specs.Texts.{macro_names}
 use Rattle.program_command.specs.Own.{unshown_of}
 use Rattle.program_command.specs.Plan.{AreOptions, has_strikes, page_limits_of, plan_of}
 use Rattle.program_command.specs.Printing.{AreShort, Printed, Where}
-use Rattle.program_command.specs.Running.{AreMacros, EndsBefore, EndsBy, FrontGives, IsDocument, IsTold, Runs, files_of, first_of, is_for_others, text_of, under, with_named}
+use Rattle.program_command.specs.Running.{AreMacros, EndsBefore, EndsBy, PrefixGives, IsDocument, IsReported, Runs, files_of, first_of, is_for_others, text_of, under, with_named}
 use Rattle.document_sources.specs.Joining.{Texts}
 use Rattle.program_command.specs.declared.endings.Ending.{Ending}
 use Rattle.program_command.specs.declared.endings.Ending.TheVariants as endings
@@ -72,11 +72,11 @@ pub Runs-others : (job : Asked) (around : Surroundings) (macros files known : Op
     → Stays files known → Begins known first → is_for_others job first ≡ true → Runs job around macros files endings.NeedsOthers a a
 Runs-others job around macros files known first a still begun others = record {
   checks = λ only. Keeps-refl a;
-  prints = λ asks page is short. let behind = begins known page first begun (stays files known page still is) in record {
+  prints = λ asks page is short. let following = begins known page first begun (stays files known page still is) in record {
     first = first;
-    rest = behind.0;
-    looked_at = behind.1;
-    ends = inr (subst (λ (b : Bool). EndsBy b job around macros page endings.NeedsOthers a a) (sym others) (record { told = refl; kept = Keeps-refl a }));
+    rest = following.0;
+    looked_at = following.1;
+    ends = inr (subst (λ (b : Bool). EndsBy b job around macros page endings.NeedsOthers a a) (sym others) (record { reported = refl; kept = Keeps-refl a }));
   };
 }
 
@@ -88,20 +88,20 @@ either job around files page first ending a b others (inr document) =
     inr (subst (λ (b' : Bool). EndsBy b' job around files page ending a b) (sym others) document)
 
 -- of files under a coding, of which some bytes were looked at, and then maybe more
-pub Runs-from : (job : Asked) (around : Surroundings) (macros : Option Supply) (named : Option Coding) (files known front : Option Supply) (first : List ℕ) (ending : Ending)
-    (a b : Option (List ℕ)) → Stays (under named files) known → Begins known first → is_for_others job first ≡ false → Stays known front
-    → FrontGives job around macros front ending a b → (job.plain.checks ≡ true → Keeps a b) → Runs job around macros (under named files) ending a b
-Runs-from job around macros named files known front first ending a b still begun others more gives only = record {
+pub Runs-from : (job : Asked) (around : Surroundings) (macros : Option Supply) (named : Option Coding) (files known prefix : Option Supply) (first : List ℕ) (ending : Ending)
+    (a b : Option (List ℕ)) → Stays (under named files) known → Begins known first → is_for_others job first ≡ false → Stays known prefix
+    → PrefixGives job around macros prefix ending a b → (job.plain.checks ≡ true → Keeps a b) → Runs job around macros (under named files) ending a b
+Runs-from job around macros named files known prefix first ending a b still begun others more gives only = record {
   checks = only;
   prints = λ asks page is short.
       let held = stays (under named files) known page still is in
-      let behind = begins known page first begun held in
+      let following = begins known page first begun held in
       record {
         first = first;
-        rest = behind.0;
-        looked_at = behind.1;
+        rest = following.0;
+        looked_at = following.1;
         ends = either job around macros page first ending a b others
-            (gives asks page (stays known front page more held) (under-unbroken named files page is) short);
+            (gives asks page (stays known prefix page more held) (under-unbroken named files page is) short);
       };
 }
 
@@ -143,14 +143,14 @@ Runs-same job around macros s t ending a b same runs = subst (λ (x : Option Sup
 
 -- ---- a page by its plan
 
-pub FrontGives-of : (job : Asked) (around : Surroundings) (files front : Option Supply) (first : List ℕ) (plan : Plan) (macros : List ℕ) (options : Options)
-    (page_limits : PageLimits) (limits : Bounds) (report : Report) (ending : Ending) (a b : Option (List ℕ)) → Begins front first
+pub PrefixGives-of : (job : Asked) (around : Surroundings) (files prefix : Option Supply) (first : List ℕ) (plan : Plan) (macros : List ℕ) (options : Options)
+    (page_limits : PageLimits) (limits : Bounds) (report : Report) (ending : Ending) (a b : Option (List ℕ)) → Begins prefix first
     → plan ≡ plan_of job around (macros_of (is_manual first) job) first → AreMacros job (macros_of (is_manual first) job) files macros
     → AreOptions job plan options → page_limits ≡ page_limits_of job → limits ≡ job.limits
-    → Where plan front (λ q. Printed plan first (record { macros = macros; options = options; page_limits = page_limits; limits = limits }) q report a b)
-    → (AreShort plan.stages first → IsTold (first_of job.files) (unshown_of plan first) report ending) → FrontGives job around files front ending a b
-FrontGives-of job around files front first plan macros options page_limits limits report ending a b begun planned read given tables bounds prints told = λ asks q known unbroken short.
-    let behind = begins front q first begun known in
+    → Where plan prefix (λ q. Printed plan first (record { macros = macros; options = options; page_limits = page_limits; limits = limits }) q report a b)
+    → (AreShort plan.stages first → IsReported (first_of job.files) (unshown_of plan first) report ending) → PrefixGives job around files prefix ending a b
+PrefixGives-of job around files prefix first plan macros options page_limits limits report ending a b begun planned read given tables bounds prints reported = λ asks q known unbroken short.
+    let following = begins prefix q first begun known in
     let checks : plan.checks ≡ false = ap (λ (p : Plan). p.checks) planned ∙ asks.prints in
     let struck : plan.strikes ≡ true = ap (λ (p : Plan). p.strikes) planned ∙ strikes job.plain.faces asks.strikes in
     let printed : Printed plan first (record { macros = macros; options = options; page_limits = page_limits; limits = limits }) q report a b = prints checks struck q known unbroken short in
@@ -158,8 +158,8 @@ FrontGives-of job around files front first plan macros options page_limits limit
     subst (λ (l : PageLimits). Printed plan first (record { macros = macros; options = options; page_limits = l; limits = limits }) q report a b) tables printed in
     inr (record {
       first = first;
-      rest = behind.0;
-      looked_at = behind.1;
+      rest = following.0;
+      looked_at = following.1;
       plan = plan;
       plan_is = planned;
       macros = macros;
@@ -168,13 +168,13 @@ FrontGives-of job around files front first plan macros options page_limits limit
       options_are = given;
       report = report;
       printed = subst (λ (l : Bounds). Printed plan first (record { macros = macros; options = options; page_limits = page_limits_of job; limits = l }) q report a b) bounds tabled;
-      told = told (short plan.stages first behind.0 behind.1);
+      reported = reported (short plan.stages first following.0 following.1);
     })
 
-pub Runs-front : {E : Type 0} → (job : Asked) (around : Surroundings) (macros : Option Supply) (named : Option Coding) (files known front : Option Supply)
+pub Runs-prefix : {E : Type 0} → (job : Asked) (around : Surroundings) (macros : Option Supply) (named : Option Coding) (files known prefix : Option Supply)
     (first : List ℕ) (r : Result Ending E) (a b : Option (List ℕ)) → Stays (under named files) known → Begins known first → is_for_others job first ≡ false
-    → Stays known front → (job.plain.checks ≡ true → Keeps a b) → IfOk r (λ ending. FrontGives job around macros front ending a b)
+    → Stays known prefix → (job.plain.checks ≡ true → Keeps a b) → IfOk r (λ ending. PrefixGives job around macros prefix ending a b)
     → IfOk r (λ ending. Runs job around macros (under named files) ending a b)
-Runs-front job around macros named files known front first (Ok ending) a b still begun others more only gives =
-    Runs-from job around macros named files known front first ending a b still begun others more gives only
-Runs-front job around macros named files known front first (Err e) a b still begun others more only gives = tt
+Runs-prefix job around macros named files known prefix first (Ok ending) a b still begun others more only gives =
+    Runs-from job around macros named files known prefix first ending a b still begun others more gives only
+Runs-prefix job around macros named files known prefix first (Err e) a b still begun others more only gives = tt

@@ -15,8 +15,8 @@ use Rattle.preconv_converter.specs.declared.target.Target.TheVariants.{Ascii}
 use Rattle.document_printing.specs.Tables.{has_tables}
 use Rattle.man_lint.specs.Complaints as man
 use Rattle.mdoc_command.specs.Complaints as mdoc
-use Rattle.tbl_command.proofs.Looked.{lines-told}
-use Rattle.tbl_command.specs.Looking.{AreToldOf, lines_of_page}
+use Rattle.tbl_command.proofs.Looked.{lines-reported}
+use Rattle.tbl_command.specs.Looking.{AreReportedOf, lines_of_page}
 use Rattle.tbl_command.specs.declared.arguments.Job.{Job}
 use Rattle.tbl_command.specs.declared.looking.Tables.{Tables}
 use Rattle.program_plan.specs.declared.macros.Macros.{Macros}
@@ -39,12 +39,12 @@ asks_not answer job is silent = is_false job.plain.warns (ap is_silent is ∙ si
 pub TellsTexts-more : (job : Asked) (coding : Option Coding) (place : ℕ) (given : List (Option Supply)) (one : Option Supply) (old next new : Heard)
     → TellsTexts job coding place given old next → TellsAt job coding (place + length given) one next new
     → TellsTexts job coding place (given ++ one ∷ []) old new
-TellsTexts-more job coding place [] one old next new told more =
+TellsTexts-more job coding place [] one old next new reported more =
     let at : place + length {A = Option Supply} [] ≡ place = omega arith in
-    (new, subst (λ (h : Heard). TellsAt job coding place one h new) told (subst (λ (n : ℕ). TellsAt job coding n one next new) at more), refl)
-TellsTexts-more job coding place (first ∷ given) one old next new (mid, told, rest) more =
+    (new, subst (λ (h : Heard). TellsAt job coding place one h new) reported (subst (λ (n : ℕ). TellsAt job coding n one next new) at more), refl)
+TellsTexts-more job coding place (first ∷ given) one old next new (mid, reported, rest) more =
     let at : place + length (first ∷ given) ≡ (place + 1) + length given = omega arith in
-    (mid, told, TellsTexts-more job coding (place + 1) given one mid next new rest (subst (λ (n : ℕ). TellsAt job coding n one next new) at more))
+    (mid, reported, TellsTexts-more job coding (place + 1) given one mid next new rest (subst (λ (n : ℕ). TellsAt job coding n one next new) at more))
 
 pub AreAhead-more : (olds news : List (Option Supply)) (old new : Option Supply) → AreAhead olds news → Stays old new → AreAhead (olds ++ old ∷ []) (news ++ new ∷ [])
 AreAhead-more [] [] old new ahead stays = (stays, tt)
@@ -78,12 +78,12 @@ pub heard-same : {E : Type 0} (held : E → Option (List ℕ)) (failures : E →
 heard-same {E} held failures old new same = ap (λ (e : E). heard (held e) (failures e)) same
 
 -- what mdoc tells
-pub macros-told : {T E : Type 0} (r : Result T E) (kind : Macros) (name page : List ℕ) (a b : Option (List ℕ)) (f h : SinkFailures) → kind ≡ Manual
-    → IfOk r (λ _. Tells a b f h (mdoc.lines_of PROGRAM name (mdoc.told_of page)))
+pub macros-reported : {T E : Type 0} (r : Result T E) (kind : Macros) (name page : List ℕ) (a b : Option (List ℕ)) (f h : SinkFailures) → kind ≡ Manual
+    → IfOk r (λ _. Tells a b f h (mdoc.lines_of PROGRAM name (mdoc.reported_of page)))
     → IfOk r (λ _. TellsEach (heard a f) (heard b h) (of_macros kind name page))
-macros-told (Ok x) kind name page a b f h is told =
-    subst (λ (k : Macros). TellsEach (heard a f) (heard b h) (of_macros k name page)) (sym is) (TellsEach-one a b f h _ told)
-macros-told (Err e) kind name page a b f h is told = told
+macros-reported (Ok x) kind name page a b f h is reported =
+    subst (λ (k : Macros). TellsEach (heard a f) (heard b h) (of_macros k name page)) (sym is) (TellsEach-one a b f h _ reported)
+macros-reported (Err e) kind name page a b f h is reported = reported
 
 pub macros-none : (kind : Macros) (name page : List ℕ) (old : Heard) → (kind ≡ Manual → ⊥) → TellsEach old old (of_macros kind name page)
 macros-none Manual name page old not = absurd (not refl)
@@ -113,7 +113,7 @@ by_has true job name page None are = absurd are
 by_has false job name page None are = refl
 by_has false job name page (Some tables) are = absurd are
 by_has true job name page (Some tables) are =
-    ap (λ (line : List ℕ). line ∷ []) (lines-told PROGRAM name job (preconv.converted Ascii page) tables are)
+    ap (λ (line : List ℕ). line ∷ []) (lines-reported PROGRAM name job (preconv.converted Ascii page) tables are)
 
 as_if : (has : Bool) (job : Job) (name page : List ℕ) → tables_if has job name page ≡ (if has then lines_of_page PROGRAM name job (preconv.converted Ascii page) ∷ [] else [])
 as_if true job name page = refl
@@ -122,9 +122,9 @@ as_if false job name page = refl
 pub tables-none : (has : Bool) (job : Job) (page : List ℕ) → has ≡ false → AreTablesOf has job page None
 tables-none has job page is = subst (λ (b : Bool). AreTablesOf b job page None) (sym is) tt
 
-pub tables-some : (has : Bool) (job : Job) (page : List ℕ) (tables : Tables) → has ≡ true → AreToldOf job (preconv.converted Ascii page) tables
+pub tables-some : (has : Bool) (job : Job) (page : List ℕ) (tables : Tables) → has ≡ true → AreReportedOf job (preconv.converted Ascii page) tables
     → AreTablesOf has job page (Some tables)
-tables-some has job page tables is told = subst (λ (b : Bool). AreTablesOf b job page (Some tables)) (sym is) told
+tables-some has job page tables is reported = subst (λ (b : Bool). AreTablesOf b job page (Some tables)) (sym is) reported
 
 -- a page is short if all of its first bytes are
 short-page : (page : List ℕ) → AreAllShort page → IsShort page page
@@ -132,10 +132,10 @@ short-page page short = (short (record { mdoc = false; characters = true }) page
 
 -- what is told of the tables of a page that was read
 pub tables-looked : (job other : Job) (page : List ℕ) (tables : Tables) (known : Option Supply) → other ≡ job
-    → (IsShort page page → known ≡ Some (whole (preconv.converted Ascii page))) → ((q : Supply) → known ≡ Some q → AreToldOf other q.bytes tables)
-    → AreAllShort page → AreToldOf job (preconv.converted Ascii page) tables
-tables-looked job other page tables known same given told short =
-    subst (λ (j : Job). AreToldOf j (preconv.converted Ascii page) tables) same (told _ (given (short-page page short)))
+    → (IsShort page page → known ≡ Some (whole (preconv.converted Ascii page))) → ((q : Supply) → known ≡ Some q → AreReportedOf other q.bytes tables)
+    → AreAllShort page → AreReportedOf job (preconv.converted Ascii page) tables
+tables-looked job other page tables known same given reported short =
+    subst (λ (j : Job). AreReportedOf j (preconv.converted Ascii page) tables) same (reported _ (given (short-page page short)))
 
 tables-are : (job : Asked) (name page : List ℕ) (tables : Option Tables) → AreTablesOf (has_tables page) (tables_job job (kind_of job page)) page tables
     → lines_of name tables ≡ of_tables job name page
@@ -143,18 +143,18 @@ tables-are job name page tables are =
     by_has (has_tables page) (tables_job job (kind_of job page)) name page tables are ∙ as_if (has_tables page) (tables_job job (kind_of job page)) name page
 
 -- all three
-pub page-told : (job : Asked) (name page : List ℕ) (kind : Macros) (tables : Option Tables) (old mid next new : Heard) → kind ≡ kind_of job page
+pub page-reported : (job : Asked) (name page : List ℕ) (kind : Macros) (tables : Option Tables) (old mid next new : Heard) → kind ≡ kind_of job page
     → TellsEach old mid (of_macros kind name page) → TellsEach mid next (of_man kind name page)
     → (AreAllShort page → AreTablesOf (has_tables page) (tables_job job kind) page tables)
     → TellsEach next new (lines_of name tables) → AreAllShort page → TellsEach old new (warnings_of job name page)
-page-told job name page kind tables old mid next new is macros calls are told short =
+page-reported job name page kind tables old mid next new is macros calls are reported short =
     let of : AreTablesOf (has_tables page) (tables_job job (kind_of job page)) page tables =
     subst (λ (k : Macros). AreTablesOf (has_tables page) (tables_job job k) page tables) is (are short) in
     let first : TellsEach old mid (of_macros (kind_of job page) name page) = subst (λ (k : Macros). TellsEach old mid (of_macros k name page)) is macros in
     let second : TellsEach mid next (of_man (kind_of job page) name page) = subst (λ (k : Macros). TellsEach mid next (of_man k name page)) is calls in
     TellsEach-append old next new (of_macros (kind_of job page) name page ++ of_man (kind_of job page) name page) (of_tables job name page)
     (TellsEach-append old mid next (of_macros (kind_of job page) name page) (of_man (kind_of job page) name page) first second)
-    (subst (λ (ls : List (List ℕ)). TellsEach next new ls) (tables-are job name page tables of) told)
+    (subst (λ (ls : List (List ℕ)). TellsEach next new ls) (tables-are job name page tables of) reported)
 
 -- ---- texts
 
@@ -167,36 +167,36 @@ decoded-is (Some coding) bytes old new known is none all = all _ is ∙ ap (λ (
 pub TellsBytes-page : {T E : Type 0} (r : Result T E) (job : Asked) (coding : Option Coding) (name bytes page : List ℕ) (old new : Heard)
     → page ≡ page_of coding bytes → IfOk r (λ _. AreAllShort page → TellsEach old new (warnings_of job name page))
     → IfOk r (λ _. TellsBytes job coding name bytes old new)
-TellsBytes-page r job coding name bytes page old new is told =
-    subst (λ (p : List ℕ). IfOk r (λ _. AreAllShort p → TellsEach old new (warnings_of job name p))) is told
+TellsBytes-page r job coding name bytes page old new is reported =
+    subst (λ (p : List ℕ). IfOk r (λ _. AreAllShort p → TellsEach old new (warnings_of job name p))) is reported
 
 pub TellsText-of : (job : Asked) (coding : Option Coding) (name : List ℕ) (given : Option Supply) (whole : Bool) (bytes : List ℕ) (old new : Heard)
     → (whole ≡ true → (q : Supply) → given ≡ Some q → q.bytes ≡ bytes) → (whole ≡ false → (q : Supply) → given ≡ Some q → MayBeCut q)
     → TellsRead job coding name whole bytes old new → TellsText job coding name given old new
-TellsText-of job coding name given true bytes old new all cut told = λ q known.
-    inl (subst (λ (bs : List ℕ). TellsBytes job coding name bs old new) (sym (all refl q known)) told)
-TellsText-of job coding name given false bytes old new all cut told = λ q known. inr (cut refl q known, told)
+TellsText-of job coding name given true bytes old new all cut reported = λ q known.
+    inl (subst (λ (bs : List ℕ). TellsBytes job coding name bs old new) (sym (all refl q known)) reported)
+TellsText-of job coding name given false bytes old new all cut reported = λ q known. inr (cut refl q known, reported)
 
 -- what was told of all that was read
 pub TellsRead-whole : {T E : Type 0} (r : Result T E) (job : Asked) (coding : Option Coding) (name : List ℕ) (whole : Bool) (bytes same : List ℕ) (old new : Heard)
     → whole ≡ true → same ≡ bytes → IfOk r (λ _. TellsBytes job coding name same old new) → IfOk r (λ _. TellsRead job coding name whole bytes old new)
-TellsRead-whole r job coding name whole bytes same old new is all told =
+TellsRead-whole r job coding name whole bytes same old new is all reported =
     subst (λ (b : Bool). IfOk r (λ _. TellsRead job coding name b bytes old new)) (sym is)
-    (subst (λ (bs : List ℕ). IfOk r (λ _. TellsBytes job coding name bs old new)) all told)
+    (subst (λ (bs : List ℕ). IfOk r (λ _. TellsBytes job coding name bs old new)) all reported)
 
 pub TellsRead-cut : (job : Asked) (coding : Option Coding) (name : List ℕ) (whole : Bool) (bytes : List ℕ) (old new : Heard) → whole ≡ false
     → TellsEach old new (unlooked name ∷ []) → TellsRead job coding name whole bytes old new
-TellsRead-cut job coding name whole bytes old new is told = subst (λ (b : Bool). TellsRead job coding name b bytes old new) (sym is) told
+TellsRead-cut job coding name whole bytes old new is reported = subst (λ (b : Bool). TellsRead job coding name b bytes old new) (sym is) reported
 
 by_flag : (flag : Bool) (job : Asked) (coding : Option Coding) (name : List ℕ) (given : Option Supply) (old new : Heard) → flag ≡ true
     → TellsText job coding name given old new → TellsOne flag job coding name given old new
-by_flag flag job coding name given old new is told = subst (λ (b : Bool). TellsOne b job coding name given old new) (sym is) told
+by_flag flag job coding name given old new is reported = subst (λ (b : Bool). TellsOne b job coding name given old new) (sym is) reported
 
 pub TellsAt-looked : {T E : Type 0} (r : Result T E) (job : Asked) (coding : Option Coding) (place : ℕ) (name : List ℕ) (given : Option Supply) (old new : Heard)
     → is_looked_at job place ≡ true → name ≡ name_at job place → IfOk r (λ _. TellsText job coding name given old new) → IfOk r (λ _. TellsAt job coding place given old new)
-TellsAt-looked (Ok x) job coding place name given old new is named told =
-    by_flag (is_looked_at job place) job coding (name_at job place) given old new is (subst (λ (n : List ℕ). TellsText job coding n given old new) named told)
-TellsAt-looked (Err e) job coding place name given old new is named told = tt
+TellsAt-looked (Ok x) job coding place name given old new is named reported =
+    by_flag (is_looked_at job place) job coding (name_at job place) given old new is (subst (λ (n : List ℕ). TellsText job coding n given old new) named reported)
+TellsAt-looked (Err e) job coding place name given old new is named reported = tt
 
 pub TellsAt-passed : (job : Asked) (coding : Option Coding) (place : ℕ) (given : Option Supply) (old : Heard) → is_looked_at job place ≡ false
     → TellsAt job coding place given old old
@@ -221,13 +221,13 @@ ahead-more {S} {A} supply shown yielded text all new ahead is were stays =
     (subst (λ (zs : List (Option Supply)). AreAhead (map supply yielded ++ supply text ∷ []) zs) (sym (map-append shown all (ahead ∷ [])))
     (AreAhead-more (map supply yielded) (map shown all) (supply text) (shown ahead) were stays)))
 
-pub told-more : {S A : Type 0} (supply : S → Option Supply) (shown : A → Option Supply) (job : Asked) (coding : Option Coding) (yielded : List S) (text : S)
+pub reported-more : {S A : Type 0} (supply : S → Option Supply) (shown : A → Option Supply) (job : Asked) (coding : Option Coding) (yielded : List S) (text : S)
     (all : List A) (n : ℕ) (old next new : Heard) → n ≡ length all → AreAhead (map supply yielded) (map shown all)
     → TellsTexts job coding 0 (map supply yielded) old next → TellsAt job coding n (supply text) next new
     → TellsTexts job coding 0 (map supply (yielded ++ text ∷ [])) old new
-told-more supply shown job coding yielded text all n old next new is ahead told at =
+reported-more supply shown job coding yielded text all n old next new is ahead reported at =
     let many : n ≡ length (map supply yielded) = is ∙ (sym (length-map all shown) ∙ AreAhead-length (map supply yielded) (map shown all) ahead) in
     let count : n ≡ 0 + length (map supply yielded) = omega (arith, many) in
     subst (λ (ys : List (Option Supply)). TellsTexts job coding 0 ys old new) (sym (map-append supply yielded (text ∷ [])))
-    (TellsTexts-more job coding 0 (map supply yielded) (supply text) old next new told
+    (TellsTexts-more job coding 0 (map supply yielded) (supply text) old next new reported
     (subst (λ (m : ℕ). TellsAt job coding m (supply text) next new) count at))

@@ -47,16 +47,16 @@ why_text Unreadable = codes "can't be read"
 why_text TooMany = codes "is one too many"
 
 -- a line of the program
-abbrev pub told : List ℕ → List ℕ → List ℕ
-told what name = concat (codes "nulbiko: " ∷ what ∷ name ∷ codes "\n" ∷ [])
+abbrev pub reported : List ℕ → List ℕ → List ℕ
+reported what name = concat (codes "nulbiko: " ∷ what ∷ name ∷ codes "\n" ∷ [])
 
 -- a line about a line of a text
 abbrev pub placed : List ℕ → List ℕ → List ℕ → List ℕ → List ℕ
 placed name line what end =
     concat (codes "nulbiko: " ∷ name ∷ codes ":" ∷ line ∷ codes ": " ∷ what ∷ end ∷ codes "\n" ∷ [])
 
-abbrev pub told_at : List ℕ → ℕ → List ℕ → List ℕ → List ℕ
-told_at name line what end = placed name (decimal line) what end
+abbrev pub reported_at : List ℕ → ℕ → List ℕ → List ℕ → List ℕ
+reported_at name line what end = placed name (decimal line) what end
 
 -- a line about texts of which the first has this name, and characters of these names are not shown
 abbrev pub unshown_line : List ℕ → List ℕ → List ℕ
@@ -66,15 +66,15 @@ unshown_line name names = concat (codes "nulbiko: " ∷ name ∷ codes ": charac
 abbrev pub line_of : Ending → List ℕ
 line_of Done = []
 line_of (Unshown name names) = unshown_line name.now names.items
-line_of (Limit place which) = told_at place.name.now place.line (limit_text which) (codes " limit passed")
-line_of (NoRoom place) = told_at place.name.now place.line (codes "no room for a table") []
-line_of TooLong = told (codes "input too long") []
+line_of (Limit place which) = reported_at place.name.now place.line (limit_text which) (codes " limit passed")
+line_of (NoRoom place) = reported_at place.name.now place.line (codes "no room for a table") []
+line_of TooLong = reported (codes "input too long") []
 line_of (BadWord usage) = usage_text usage.case usage.word.now
-line_of (CannotOpen input) = told (codes "cannot open ") (name_of (reading_of input))
-line_of (NoMacros name) = told (codes "no macros of the name ") name.now
-line_of (ReadFault place) = told_at place.name.now place.line (codes "read fault") []
-line_of WriteFault = told (codes "write fault") []
-line_of OutOfMemory = told (codes "out of memory") []
+line_of (CannotOpen input) = reported (codes "cannot open ") (name_of (reading_of input))
+line_of (NoMacros name) = reported (codes "no macros of the name ") name.now
+line_of (ReadFault place) = reported_at place.name.now place.line (codes "read fault") []
+line_of WriteFault = reported (codes "write fault") []
+line_of OutOfMemory = reported (codes "out of memory") []
 line_of NeedsOthers = []
-line_of (LeftOut place why) = told_at place.name.now place.line (codes "the text that .so names ") (why_text why)
-line_of (NoFolder path) = told (codes "no folder ") path.now
+line_of (LeftOut place why) = reported_at place.name.now place.line (codes "the text that .so names ") (why_text why)
+line_of (NoFolder path) = reported (codes "no folder ") path.now

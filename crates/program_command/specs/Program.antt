@@ -70,7 +70,7 @@ pub record EndsUnrun (ending : Ending) (held new : Option (List ℕ)) : Type 0 w
 -- that words name.
 pub record Warned (job : Asked) (around : Surroundings) (coding : Option Coding) (folder : Option (Option Texts)) (given : List (Option Supply))
     (ending : Ending) (held new : Option (List ℕ)) (before after : Heard) : Type 0 where
-  pub told : TellsTexts job coding 0 given before after
+  pub reported : TellsTexts job coding 0 given before after
   pub runs : Runs job around (files_of job given) (text_of job coding folder given) ending held new
 
 -- The texts of a job were opened, each its own, and this is what they come to.

@@ -71,17 +71,17 @@ IsWholeBut name unshown other = ⊥
 
 -- How the end of a page is told, with the line that was read last, or the characters that are not shown; that the output failed,
 -- also where it did behind the page.
-abbrev pub IsTold : List ℕ → List ℕ → Report → Ending → Type 0
-IsTold name unshown report Done = (report.outcome ≡ outcomes.Done) × IsWholeBut name unshown Done
-IsTold name unshown report (Unshown first names) = (report.outcome ≡ outcomes.Done) × IsWholeBut name unshown (Unshown first names)
-IsTold name unshown report (Limit place which) =
+abbrev pub IsReported : List ℕ → List ℕ → Report → Ending → Type 0
+IsReported name unshown report Done = (report.outcome ≡ outcomes.Done) × IsWholeBut name unshown Done
+IsReported name unshown report (Unshown first names) = (report.outcome ≡ outcomes.Done) × IsWholeBut name unshown (Unshown first names)
+IsReported name unshown report (Limit place which) =
     (at : ℕ) × (report.outcome ≡ outcomes.Limit which at) × IsPlace name report.line place
-IsTold name unshown report (NoRoom place) = (report.outcome ≡ outcomes.NoRoom) × IsPlace name report.line place
-IsTold name unshown report TooLong = report.outcome ≡ outcomes.TooLong
-IsTold name unshown report (ReadFault place) = (report.outcome ≡ outcomes.ReadFault) × IsPlace name report.line place
-IsTold name unshown report WriteFault = ⊤
-IsTold name unshown report (LeftOut place why) = (report.outcome ≡ outcomes.Done) × (place.name.now ≡ name)
-IsTold name unshown report other = ⊥
+IsReported name unshown report (NoRoom place) = (report.outcome ≡ outcomes.NoRoom) × IsPlace name report.line place
+IsReported name unshown report TooLong = report.outcome ≡ outcomes.TooLong
+IsReported name unshown report (ReadFault place) = (report.outcome ≡ outcomes.ReadFault) × IsPlace name report.line place
+IsReported name unshown report WriteFault = ⊤
+IsReported name unshown report (LeftOut place why) = (report.outcome ≡ outcomes.Done) × (place.name.now ≡ name)
+IsReported name unshown report other = ⊥
 
 -- a text is left out
 abbrev pub IsLeftOut : List ℕ → Ending → Type 0
@@ -133,7 +133,7 @@ pub record IsDocument (job : Asked) (around : Surroundings) (files : Option Supp
   pub report : Report
   pub printed : Printed plan first
       (record { macros = macros; options = options; page_limits = page_limits_of job; limits = job.limits }) q report held new
-  pub told : IsTold (first_of job.files) (unshown_of plan first) report ending
+  pub reported : IsReported (first_of job.files) (unshown_of plan first) report ending
 
 -- nothing goes out, and the run ends before its page
 pub record EndsBefore (ending : Ending) (held new : Option (List ℕ)) : Type 0 where
@@ -142,7 +142,7 @@ pub record EndsBefore (ending : Ending) (held new : Option (List ℕ)) : Type 0 
 
 -- the same where the text asks for other programs
 pub record IsForOthers (ending : Ending) (held new : Option (List ℕ)) : Type 0 where
-  pub told : ending ≡ NeedsOthers
+  pub reported : ending ≡ NeedsOthers
   pub kept : Keeps held new
 
 abbrev pub EndsBy : Bool → Asked → Surroundings → Option Supply → Supply → Ending → Option (List ℕ) → Option (List ℕ) → Type 0
@@ -163,8 +163,8 @@ pub record AsksForPages (job : Asked) : Type 0 where
   pub strikes : job.plain.faces ≢ faces.None
 
 -- what comes of a text that asks for no other program
-abbrev pub FrontGives : Asked → Surroundings → Option Supply → Option Supply → Ending → Option (List ℕ) → Option (List ℕ) → Type 0
-FrontGives job around files supply ending held new =
+abbrev pub PrefixGives : Asked → Surroundings → Option Supply → Option Supply → Ending → Option (List ℕ) → Option (List ℕ) → Type 0
+PrefixGives job around files supply ending held new =
     AsksForPages job → (q : Supply) → supply ≡ Some q → breaks_off q.faults ≡ false → AreAllShort q.bytes
     → EndsBefore ending held new ⊎ IsDocument job around files q ending held new
 

@@ -12,7 +12,7 @@ use Rattle.document_printing.specs.Tables.{has_tables}
 use Rattle.document_stages.specs.Pulling.{Stays}
 use Rattle.man_lint.specs.Complaints as man
 use Rattle.mdoc_command.specs.Complaints as mdoc
-use Rattle.tbl_command.specs.Looking.{AreToldOf, lines_of_page, lines_of_tables}
+use Rattle.tbl_command.specs.Looking.{AreReportedOf, lines_of_page, lines_of_tables}
 use Rattle.tbl_command.specs.declared.arguments.Job.{Job}
 use Rattle.tbl_command.specs.declared.looking.Tables.{Tables}
 use Rattle.program_options.specs.Job.{Asked}
@@ -34,7 +34,7 @@ kind_of job page = macros_of (is_manual (take 65536 page)) job
 
 -- what mdoc tells of a page, where it has the macros of manual pages
 abbrev pub of_macros : Macros → List ℕ → List ℕ → List (List ℕ)
-of_macros kind name page = if is_of_manual kind then mdoc.lines_of PROGRAM name (mdoc.told_of page) ∷ [] else []
+of_macros kind name page = if is_of_manual kind then mdoc.lines_of PROGRAM name (mdoc.reported_of page) ∷ [] else []
 
 -- what is wrong with the lines of a page of man(7), where it has the same macros
 abbrev pub of_man : Macros → List ℕ → List ℕ → List (List ℕ)
@@ -141,7 +141,7 @@ AreAhead olds news = ⊥
 
 -- what tbl would tell of a page with tables
 abbrev pub AreTablesOf : Bool → Job → List ℕ → Option Tables → Type 0
-AreTablesOf true job page (Some tables) = AreToldOf job (preconv.converted Ascii page) tables
+AreTablesOf true job page (Some tables) = AreReportedOf job (preconv.converted Ascii page) tables
 AreTablesOf false job page None = Unit {0}
 AreTablesOf has job page tables = ⊥
 

@@ -3,7 +3,7 @@ ghost use Rattle.std.specs.Prelude.{◌≡◌, codes};
 ghost use Rattle.nr_command_options.specs.Inputs.{macro_path, reading_of};
 ghost use Rattle.nr_command.specs.Opening.{name_of};
 ghost use Rattle.filters.specs.Endings.{Tells};
-ghost use Rattle.program_command.specs.Endings.{line_of, limit_text, placed, status_of, told, told_at, unshown_line, why_text};
+ghost use Rattle.program_command.specs.Endings.{line_of, limit_text, placed, status_of, reported, reported_at, unshown_line, why_text};
 
 use document_sources::Why;
 use filters::put_all;
@@ -104,7 +104,7 @@ fn why_text(why: Why) -> &'static str
 /// Writes a line of the program.
 fn put_line<E: Sink>(what: &str, name: &str, errors: &mut E)
     ensures { Tells (E.held errors.old) (E.held errors.new) (E.failures errors.old) (E.failures errors.new)
-        (told what.now name.now) }
+        (reported what.now name.now) }
 {
     let parts = [b"nulbiko: ", what.as_bytes(), name.as_bytes(), b"\n"];
     let _ = put_all(&parts, errors);
@@ -128,7 +128,7 @@ fn put_unshown<E: Sink>(name: &str, names: &[u8], errors: &mut E)
 /// Writes a line about a place in a text.
 fn put_placed<E: Sink>(place: Place<'_>, what: &str, end: &str, errors: &mut E)
     ensures { Tells (E.held errors.old) (E.held errors.new) (E.failures errors.old) (E.failures errors.new)
-        (told_at place.entry.name.now place.entry.line what.now end.now) }
+        (reported_at place.entry.name.now place.entry.line what.now end.now) }
 {
     let mut digits = Buffer::new();
     put_at(place.name, digits.format(place.line), what, end, errors);
@@ -155,7 +155,7 @@ fn put_at<E: Sink>(name: &str, line: &str, what: &str, end: &str, errors: &mut E
 /// Writes the line of a text that can't be opened.
 fn put_unopened<E: Sink>(input: Input<'_>, errors: &mut E)
     ensures { Tells (E.held errors.old) (E.held errors.new) (E.failures errors.old) (E.failures errors.new)
-        (told (codes "cannot open ") (name_of (reading_of input.entry))) }
+        (reported (codes "cannot open ") (name_of (reading_of input.entry))) }
 {
     match input {
         Input::Macros(file) => put_path(file.folder, file.name, errors),
@@ -167,7 +167,7 @@ fn put_unopened<E: Sink>(input: Input<'_>, errors: &mut E)
 /// The same of a macro file.
 fn put_path<E: Sink>(folder: &str, name: &str, errors: &mut E)
     ensures { Tells (E.held errors.old) (E.held errors.new) (E.failures errors.old) (E.failures errors.new)
-        (told (codes "cannot open ") (macro_path folder.now name.now)) }
+        (reported (codes "cannot open ") (macro_path folder.now name.now)) }
 {
     let parts = [
         b"nulbiko: cannot open ",
@@ -183,7 +183,7 @@ fn put_path<E: Sink>(folder: &str, name: &str, errors: &mut E)
 /// went out, and where a text asks for other programs, which the status alone says.
 pub(crate) fn tell<E: Sink>(ending: Ending<'_>, errors: &mut E) -> u8
     ensures status { result ≡ status_of ending.entry }
-    ensures told { Tells (E.held errors.old) (E.held errors.new) (E.failures errors.old)
+    ensures reported { Tells (E.held errors.old) (E.held errors.new) (E.failures errors.old)
         (E.failures errors.new) (line_of ending.entry) }
 {
     let status = status(&ending);

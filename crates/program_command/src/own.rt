@@ -24,21 +24,21 @@ use utf8_own_page::{Cells, counted, lacks, signs_of};
 const ROOM: usize = 2_048;
 
 /// Whether no fixed table may have all that a page prints.
-fn may_need_own(plan: &Plan, front: &[u8]) -> bool
-    ensures { result ≡ may_need_own plan.now front.now }
+fn may_need_own(plan: &Plan, prefix: &[u8]) -> bool
+    ensures { result ≡ may_need_own plan.now prefix.now }
 {
-    plan.spells && !plan.checks && utf8_own_page::may_need_own(front)
+    plan.spells && !plan.checks && utf8_own_page::may_need_own(prefix)
 }
 
 /// Counts what a page prints beyond ASCII, after what frames are drawn with where its tables are set.
-fn count_front(plan: &Plan, front: &[u8], alloc: Global) -> Result<Vec<Count>, AllocError>
-    ensures counted { IsShort front.now (man_of plan.now.stages.mdoc front.now) →
-        length (plain_of plan.now.stages Utf8 front.now) < 1099511627776 →
-        IfOk result (λ counts. counts.items ≡ counts_of plan.now front.now) }
+fn count_prefix(plan: &Plan, prefix: &[u8], alloc: Global) -> Result<Vec<Count>, AllocError>
+    ensures counted { IsShort prefix.now (man_of plan.now.stages.mdoc prefix.now) →
+        length (plain_of plan.now.stages Utf8 prefix.now) < 1099511627776 →
+        IfOk result (λ counts. counts.items ≡ counts_of plan.now prefix.now) }
     ensures once { IfOk result (λ counts. is_once counts.items ≡ true) }
 {
     let mut places = Places::new();
-    let mut text = read_page(Text::over(front), plan.stages, Target::Utf8, places.lend());
+    let mut text = read_page(Text::over(prefix), plan.stages, Target::Utf8, places.lend());
     counted(alloc, &mut text, plan.tables)
 }
 
@@ -49,15 +49,15 @@ fn count_front(plan: &Plan, front: &[u8], alloc: Global) -> Result<Vec<Count>, A
 /// what the stages make of the bytes that were looked at. (`own_cells`; `needs_own` in Own.antt)
 pub(crate) fn own_cells(
     plan: &Plan,
-    front: &[u8],
+    prefix: &[u8],
     alloc: Global,
 ) -> Result<Option<Cells>, AllocError>
-    ensures { AreShort plan.now.stages front.now → IfOk result (HasOwn plan.now front.now) }
+    ensures { AreShort plan.now.stages prefix.now → IfOk result (HasOwn plan.now prefix.now) }
 {
-    if !may_need_own(plan, front) {
+    if !may_need_own(plan, prefix) {
         return Ok(None);
     }
-    let counts = count_front(plan, front, alloc)?;
+    let counts = count_prefix(plan, prefix, alloc)?;
     if !lacks(plan.characters, &counts) {
         return Ok(None);
     }

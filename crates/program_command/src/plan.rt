@@ -56,12 +56,12 @@ pub(crate) fn plan_of(
     job: &Job<'_>,
     kind: Macros,
     around: &Surroundings,
-    front: &[u8],
+    prefix: &[u8],
 ) -> Result<Plan, AllocError>
-    ensures { IfOk result (λ plan. plan ≡ plan_of (asked_of job.now) around.now kind front.now) }
+    ensures { IfOk result (λ plan. plan ≡ plan_of (asked_of job.now) around.now kind prefix.now) }
 {
     let device = job.plain.device.unwrap_or(around.device);
-    let characters = table_of(device, front, around.alloc)?;
+    let characters = table_of(device, prefix, around.alloc)?;
     let spells = device == Device::Utf8 && characters.is_some();
     Ok(Plan {
         cells: cells_of(job, kind),
@@ -69,7 +69,7 @@ pub(crate) fn plan_of(
             mdoc: kind == Macros::Manual,
             characters: true,
         },
-        tables: is_cut(front) || has_tables(front),
+        tables: is_cut(prefix) || has_tables(prefix),
         characters,
         spells,
         escapes: spells && escapes(job.plain.faces, around.shows),
@@ -79,30 +79,30 @@ pub(crate) fn plan_of(
 }
 
 /// Whether more of a page may come than was looked at.
-fn is_cut(front: &[u8]) -> bool
-    ensures { result ≡ ((length front.now == 65536) || (length front.now == 1048576)) }
+fn is_cut(prefix: &[u8]) -> bool
+    ensures { result ≡ ((length prefix.now == 65536) || (length prefix.now == 1048576)) }
 {
-    front.len() == LOOKED_AT || front.len() == MORE_LOOKED_AT
+    prefix.len() == LOOKED_AT || prefix.len() == MORE_LOOKED_AT
 }
 
 /// The table of the characters of a text, by its first bytes: none where ASCII is printed.
-fn table_of(device: Device, front: &[u8], alloc: Global) -> Result<Option<Table>, AllocError>
-    ensures { IfOk result (λ table. table ≡ table_for device front.now) }
+fn table_of(device: Device, prefix: &[u8], alloc: Global) -> Result<Option<Table>, AllocError>
+    ensures { IfOk result (λ table. table ≡ table_for device prefix.now) }
 {
     match device {
-        Device::Utf8 => Ok(Some(fullest(front, alloc)?)),
+        Device::Utf8 => Ok(Some(fullest(prefix, alloc)?)),
         Device::Latin1 => Ok(Some(Table::Latin1)),
         Device::Ascii => Ok(None),
     }
 }
 
 /// The table that has most of the characters of a text, by its first bytes.
-fn fullest(front: &[u8], alloc: Global) -> Result<Table, AllocError>
-    ensures { IfOk result (λ table. table ≡ table_with_most front.now) }
+fn fullest(prefix: &[u8], alloc: Global) -> Result<Table, AllocError>
+    ensures { IfOk result (λ table. table ≡ table_with_most prefix.now) }
 {
     let mut page = vec![in alloc; 0u8; LOOKED_AT]?;
     let mut counts = vec![in alloc; 0u32; CHARACTERS]?;
-    let mut text = Text::over(front);
+    let mut text = Text::over(prefix);
     match choose(&mut text, &mut page, &mut counts) {
         Ok(table) => Ok(table),
         // A slice doesn't fail.

@@ -128,11 +128,11 @@ pub fn run_words<'b, O: Opener<'b> + Reaches, W: Sink + Drop, E: Sink>(
     errors: &mut E,
 ) -> (u8, W)
     ensures { (ending : Ending) × (result.0 ≡ status_of ending)
-        × (told : E) × (is_silent (asked (texts words.now)) ≡ true → told ≡ errors.old)
-        × Tells (E.held told) (E.held errors.new) (E.failures told) (E.failures errors.new) (line_of ending)
+        × (reported : E) × (is_silent (asked (texts words.now)) ≡ true → reported ≡ errors.old)
+        × Tells (E.held reported) (E.held errors.new) (E.failures reported) (E.failures errors.new) (line_of ending)
         × Comes (asked (texts words.now)) around.now (O.may_come opener.old) (O.texts_in opener.old) (O.asked opener.old)
         (O.asked opener.new) (opener.new ≡ opener.old) (result.1 ≡ output) (W.held output) (W.held result.1) (W.passed_on result.1)
-        (heard (E.held errors.old) (E.failures errors.old)) (heard (E.held told) (E.failures told)) ending }
+        (heard (E.held errors.old) (E.failures errors.old)) (heard (E.held reported) (E.failures reported)) ending }
 {
     let (ending, output) = ending_of(around, words, opener, buffers, output, errors);
     (tell(ending, errors), output)

@@ -11,15 +11,15 @@ ghost use Rattle.program_command.specs.Own.{HasOwn, names_in};
 ghost use Rattle.program_command.specs.Plan.{AreOptions, IsSelected, plan_of};
 ghost use Rattle.program_command.specs.Printing.{AreShort};
 ghost use Rattle.program_command.specs.Program.{IsOfRun, Passes};
-ghost use Rattle.program_command.specs.Running.{AreMacros, FrontGives, IsReading, IsTold, IsWholeBut, Runs, files_of, first_of, is_for_others, text_of, under, with_named, MayLeaveOut};
+ghost use Rattle.program_command.specs.Running.{AreMacros, PrefixGives, IsReading, IsReported, IsWholeBut, Runs, files_of, first_of, is_for_others, text_of, under, with_named, MayLeaveOut};
 
 use crate::endings::{Ending, Place};
 use crate::own::{own_cells, print_by_plan, unshown};
 use crate::plan::{LOOKED_AT, MORE_LOOKED_AT, Plan, limits_of, options_of, plan_of};
 use crate::printing::Means;
 use crate::surroundings::Surroundings;
-use document_printing::{Front, Outcome, Report, hold};
-use document_sources::{Folder, Joining, LeftOut, Limits, Told};
+use document_printing::{Outcome, Prefixed, Report, hold};
+use document_sources::{Folder, Joining, LeftOut, Limits, Omissions};
 use nr_command_options::chain;
 use nr_engine::{CountedAlloc, Desk, Options, Sink, Source};
 use nr_page::Select;
@@ -50,7 +50,7 @@ pub(crate) struct Reading {
 /// How a page ended that was printed whole, but for these characters, if there are any.
 fn printed<'a>(name: &'a str, unshown: Vec<u8>) -> Ending<'a>
     ensures run { IsOfRun result }
-    ensures told { IsWholeBut name.entry.now unshown.items result }
+    ensures reported { IsWholeBut name.entry.now unshown.items result }
 {
     if unshown.is_empty() {
         return Ending::Done;
@@ -61,7 +61,7 @@ fn printed<'a>(name: &'a str, unshown: Vec<u8>) -> Ending<'a>
 /// What a report comes to, for texts of which the first has this name, and of which these characters are not shown.
 fn ending_of<'a>(report: &Report, name: &'a str, unshown: Vec<u8>) -> Ending<'a>
     ensures run { IsOfRun result }
-    ensures told { IsTold name.entry.now unshown.items report.now result }
+    ensures reported { IsReported name.entry.now unshown.items report.now result }
 {
     let place = Place {
         name,
@@ -181,8 +181,8 @@ fn run_within<'a, T: Source + Drop, S: Source + Drop, F: Folder + Drop, W: Sink 
         return (output, Err(AllocError));
     };
     let mut first = None;
-    let told = Told::over(&mut first);
-    let pages = Joining::over(pages, folder, FOLLOWED, &mut room, told, around.alloc);
+    let reported = Omissions::over(&mut first);
+    let pages = Joining::over(pages, folder, FOLLOWED, &mut room, reported, around.alloc);
     let (output, ran) = run_all(job, reading, around, macros, pages, output);
     match ran {
         Ok(ending) => (output, Ok(with_left_out(ending, first_name(job), first))),
@@ -228,8 +228,8 @@ fn run_all<'a, T: Source + Drop, S: Source + Drop, W: Sink + Drop>(
     let Ok(mut room) = vec![in around.alloc; 0u8; LOOKED_AT] else {
         return (output, Err(AllocError));
     };
-    let front = hold(under_coding(pages, coding), &mut room);
-    let first = front.first();
+    let prefix = hold(under_coding(pages, coding), &mut room);
+    let first = prefix.first();
     if is_for_others(job, first) {
         return (output, Ok(Ending::NeedsOthers));
     }
@@ -237,10 +237,10 @@ fn run_all<'a, T: Source + Drop, S: Source + Drop, W: Sink + Drop>(
         let Ok(mut more) = vec![in around.alloc; 0u8; MORE_LOOKED_AT] else {
             return (output, Err(AllocError));
         };
-        let front = hold(front, &mut more);
-        return run_front(job, select, around, macros, front, output);
+        let prefix = hold(prefix, &mut more);
+        return run_prefix(job, select, around, macros, prefix, output);
     }
-    run_front(job, select, around, macros, front, output)
+    run_prefix(job, select, around, macros, prefix, output)
 }
 
 /// Whether words ask not to print a text that asks for other programs, as one does that begins with these bytes.
@@ -280,26 +280,26 @@ fn make_ready<T: Source + Drop>(
     select: Select,
     around: &Surroundings,
     macros: &mut [T],
-    front: &[u8],
+    prefix: &[u8],
 ) -> Result<Option<Ready>, AllocError>
     requires { IsSelected (asked_of job.now).pages select }
     ensures plan { IfOk result (λ made. IfSome made (λ ready. ready.plan
-        ≡ plan_of (asked_of job.now) around.now (macros_of (is_manual front.now) (asked_of job.now)) front.now)) }
-    ensures own { IfOk result (λ made. IfSome made (λ ready. AreShort ready.plan.stages front.now →
-        HasOwn ready.plan front.now ready.own)) }
+        ≡ plan_of (asked_of job.now) around.now (macros_of (is_manual prefix.now) (asked_of job.now)) prefix.now)) }
+    ensures own { IfOk result (λ made. IfSome made (λ ready. AreShort ready.plan.stages prefix.now →
+        HasOwn ready.plan prefix.now ready.own)) }
     ensures unshown { IfOk result (λ made. IfSome made (λ ready. ready.unshown.items ≡ names_in ready.own)) }
     ensures macros { IfOk result (λ made. IfSome made (λ ready. AreMacros (asked_of job.now)
-        (macros_of (is_manual front.now) (asked_of job.now)) (files_supply (map T.supply macros.old)) ready.before.items)) }
+        (macros_of (is_manual prefix.now) (asked_of job.now)) (files_supply (map T.supply macros.old)) ready.before.items)) }
     ensures options { IfOk result (λ made. IfSome made (λ ready. AreOptions (asked_of job.now) ready.plan ready.options)) }
     ensures limits { IfOk result (λ made. IfSome made (λ ready. ready.desk ≡ (asked_of job.now).limits)) }
 {
-    let kind = macros_of(job, is_manual(front));
+    let kind = macros_of(job, is_manual(prefix));
     let mut before = text_before(job, kind, around.alloc)?;
     if !add_all(&mut chain(macros), &mut before)? {
         return Ok(None);
     }
-    let plan = plan_of(job, kind, around, front)?;
-    let own = own_cells(&plan, front, around.alloc)?;
+    let plan = plan_of(job, kind, around, prefix)?;
+    let own = own_cells(&plan, prefix, around.alloc)?;
     let unshown = unshown(&own, around.alloc)?;
     let desk = Desk::new(&mut CountedAlloc::new(around.alloc), job.limits)?;
     let options = options_of(job, &plan, select);
@@ -314,23 +314,23 @@ fn make_ready<T: Source + Drop>(
 }
 
 /// The same over pages of which the first bytes were read.
-fn run_front<'a, 'p, T: Source + Drop, R: Source + Drop, W: Sink + Drop>(
+fn run_prefix<'a, 'p, T: Source + Drop, R: Source + Drop, W: Sink + Drop>(
     job: &Job<'a>,
     select: Select,
     around: &Surroundings,
     macros: &mut [T],
-    front: Front<'p, R>,
+    prefix: Prefixed<'p, R>,
     output: W,
 ) -> (W, Result<Ending<'a>, AllocError>)
     requires { IsSelected (asked_of job.now).pages select }
     ensures run { IfOk result.1 IsOfRun }
-    ensures prints { IfOk result.1 (λ ending. FrontGives (asked_of job.now) around.now (files_supply (map T.supply macros.old))
-        (⟦<Front<'p, R> as Source>⟧.supply front.entry) ending (W.held output) (W.held result.0)) }
+    ensures prints { IfOk result.1 (λ ending. PrefixGives (asked_of job.now) around.now (files_supply (map T.supply macros.old))
+        (⟦<Prefixed<'p, R> as Source>⟧.supply prefix.entry) ending (W.held output) (W.held result.0)) }
     ensures checks { (asked_of job.now).plain.checks ≡ true → result.0 ≡ output }
     ensures unprinted { IfErr result.1 (λ _. result.0 ≡ output) }
 {
     let name = first_name(job);
-    let first = front.first();
+    let first = prefix.first();
     let Ok(made) = make_ready(job, select, around, macros, first) else {
         return (output, Err(AllocError));
     };
@@ -351,7 +351,7 @@ fn run_front<'a, 'p, T: Source + Drop, R: Source + Drop, W: Sink + Drop>(
         limits: limits_of(job),
         alloc: around.alloc,
     };
-    let (output, printed) = print_by_plan(front, &own, &plan, means, &mut desk, output);
+    let (output, printed) = print_by_plan(prefix, &own, &plan, means, &mut desk, output);
     match printed {
         Ok(report) => (output, Ok(ending_of(&report, name, unshown))),
         Err(error) => (output, Err(error)),

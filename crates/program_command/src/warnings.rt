@@ -9,7 +9,7 @@ ghost use Rattle.program_command.specs.Running.{IsReading, first_of};
 ghost use Rattle.document_printing.specs.Tables.{has_tables};
 ghost use Rattle.preconv_converter.specs.Reading.{converted};
 ghost use Rattle.preconv_converter.specs.declared.target.Target.TheVariants.{Ascii};
-ghost use Rattle.tbl_command.specs.Looking.{AreToldOf};
+ghost use Rattle.tbl_command.specs.Looking.{AreReportedOf};
 ghost use Rattle.program_command.specs.Printing.{AreAllShort};
 ghost use Rattle.program_command.specs.Warnings.{AreAhead, AreTablesOf, TellsAt, TellsBytes, TellsEach, TellsRead, TellsText, TellsTexts, heard, is_looked_at, lines_of, of_macros, of_man, page_of, tables_job, unlooked, warnings_of};
 
@@ -84,7 +84,7 @@ pub(crate) fn warn_of<S: Source + Drop, E: Sink>(
 ) -> Result<Vec<Ahead<S>>, AllocError>
     ensures stay { IfOk result (λ all. AreAhead (map S.supply texts.items)
         (map ⟦<Ahead<S> as Source>⟧.supply all.items)) }
-    ensures told { IfOk result (λ _. TellsTexts (asked_of job.now) coding 0 (map S.supply texts.items)
+    ensures reported { IfOk result (λ _. TellsTexts (asked_of job.now) coding 0 (map S.supply texts.items)
         (heard (E.held errors.old) (E.failures errors.old)) (heard (E.held errors.new) (E.failures errors.new))) }
     ensures silent { (asked_of job.now).plain.warns ≡ false → errors.new ≡ errors.old }
 {
@@ -106,7 +106,7 @@ fn ahead_of<S: Source + Drop, E: Sink>(
     errors: &mut E,
 ) -> Result<Ahead<S>, AllocError>
     ensures stays { IfOk result (λ ahead. Stays (S.supply text) (⟦<Ahead<S> as Source>⟧.supply ahead)) }
-    ensures told { IfOk result (λ _. TellsAt (asked_of job.now) looks.coding place (S.supply text)
+    ensures reported { IfOk result (λ _. TellsAt (asked_of job.now) looks.coding place (S.supply text)
         (heard (E.held errors.old) (E.failures errors.old)) (heard (E.held errors.new) (E.failures errors.new))) }
     ensures silent { (asked_of job.now).plain.warns ≡ false → errors.new ≡ errors.old }
 {
@@ -143,7 +143,7 @@ fn look_at_text<S: Source + Drop, E: Sink>(
     errors: &mut E,
 ) -> Result<Ahead<S>, AllocError>
     ensures stays { IfOk result (λ ahead. Stays (S.supply text) (⟦<Ahead<S> as Source>⟧.supply ahead)) }
-    ensures told { IfOk result (λ _. TellsText (asked_of job.now) looks.coding name.now (S.supply text)
+    ensures reported { IfOk result (λ _. TellsText (asked_of job.now) looks.coding name.now (S.supply text)
         (heard (E.held errors.old) (E.failures errors.old)) (heard (E.held errors.new) (E.failures errors.new))) }
 {
     let mut text = text;
@@ -305,7 +305,7 @@ fn look_at_tables(
     alloc: Global,
 ) -> Result<Tables, AllocError>
     ensures { IfOk result (λ tables. AreAllShort page.now →
-        AreToldOf (tables_job (asked_of job.now) kind) (converted Ascii page.now) tables) }
+        AreReportedOf (tables_job (asked_of job.now) kind) (converted Ascii page.now) tables) }
 {
     let mut places = Places::new();
     let mut text = read_page(Text::over(page), STAGES, Target::Ascii, places.lend());

@@ -14,12 +14,12 @@ abbrev pub option_text : List ℕ → List ℕ
 option_text word =
     if slice_index word 1 == code "-" then word else take (2 + prefix_len goes_on (drop 2 word)) word
 
-abbrev pub front_of : Case → List ℕ
-front_of LeftOut = codes "nulbiko: option "
-front_of Unknown = codes "nulbiko: unknown option "
-front_of BadValue = codes "nulbiko: bad value in "
-front_of NoValue = codes "nulbiko: no value after "
-front_of TooMany = codes "nulbiko: too many options like "
+abbrev pub prefix_of : Case → List ℕ
+prefix_of LeftOut = codes "nulbiko: option "
+prefix_of Unknown = codes "nulbiko: unknown option "
+prefix_of BadValue = codes "nulbiko: bad value in "
+prefix_of NoValue = codes "nulbiko: no value after "
+prefix_of TooMany = codes "nulbiko: too many options like "
 
 abbrev pub word_text : Case → List ℕ → List ℕ
 word_text LeftOut word = option_text word
@@ -32,4 +32,4 @@ end_of other = codes "\n"
 
 -- the line that reports the word
 abbrev pub usage_text : Case → List ℕ → List ℕ
-usage_text case word = front_of case ++ word_text case word ++ end_of case
+usage_text case word = prefix_of case ++ word_text case word ++ end_of case

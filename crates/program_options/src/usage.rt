@@ -3,7 +3,7 @@ ghost use Rattle.std.specs.Prelude.{◌≡◌, ◌++◌, OnOk, OnErr};
 ghost use Rattle.std.specs.Io.KnownBytes.{Appends};
 ghost use Rattle.nr_units.specs.Failures.{put_counted};
 ghost use Rattle.nr_units.specs.Sink.{AppendsPrefix};
-ghost use Rattle.program_options.specs.Usage.{end_of, front_of, goes_on, option_text, usage_text, word_text};
+ghost use Rattle.program_options.specs.Usage.{end_of, prefix_of, goes_on, option_text, usage_text, word_text};
 
 use nr_units::sink::Sink;
 use nr_units::source::Fault;
@@ -46,12 +46,12 @@ pub fn usage_line<W: Sink>(usage: &Usage<'_>, errors: &mut W) -> Result<(), Faul
     ensures failures { W.failures errors.new ≡ put_counted (W.failures errors.old) result }
 {
     let word = word_text(usage.case, usage.word.as_bytes());
-    put_parts(front_of(usage.case), word, end_of(usage.case), errors)
+    put_parts(prefix_of(usage.case), word, end_of(usage.case), errors)
 }
 
 /// What stands before the word.
-fn front_of(case: Case) -> &'static [u8]
-    ensures { result.now ≡ front_of case }
+fn prefix_of(case: Case) -> &'static [u8]
+    ensures { result.now ≡ prefix_of case }
 {
     match case {
         Case::LeftOut => b"nulbiko: option ",
@@ -83,14 +83,19 @@ fn end_of(case: Case) -> &'static [u8]
 }
 
 /// A line in three parts.
-fn put_parts<W: Sink>(front: &[u8], middle: &[u8], back: &[u8], errors: &mut W) -> Result<(), Fault>
+fn put_parts<W: Sink>(
+    prefix: &[u8],
+    middle: &[u8],
+    back: &[u8],
+    errors: &mut W,
+) -> Result<(), Fault>
     ensures ok { OnOk result
-        (Appends (W.held errors.old) (W.held errors.new) (front.now ++ middle.now ++ back.now)) }
+        (Appends (W.held errors.old) (W.held errors.new) (prefix.now ++ middle.now ++ back.now)) }
     ensures err { OnErr result
-        (AppendsPrefix (W.held errors.old) (W.held errors.new) (front.now ++ middle.now ++ back.now)) }
+        (AppendsPrefix (W.held errors.old) (W.held errors.new) (prefix.now ++ middle.now ++ back.now)) }
     ensures failures { W.failures errors.new ≡ put_counted (W.failures errors.old) result }
 {
-    errors.put(front)?;
+    errors.put(prefix)?;
     errors.put(middle)?;
     errors.put(back)
 }

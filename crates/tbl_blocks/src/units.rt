@@ -82,7 +82,7 @@ fn bracketed(text: &[u8]) -> &[u8]
 }
 
 /// The first bytes of a text, or as many as there are.
-fn front(text: &[u8], count: usize) -> &[u8]
+fn prefix(text: &[u8], count: usize) -> &[u8]
     ensures { result.now ≡ take count text.now }
 {
     &text[..text.len().min(count)]
@@ -93,9 +93,9 @@ fn name_in(text: &[u8]) -> &[u8]
     ensures { result.now ≡ specs.name_in text.now }
 {
     match text.split_first() {
-        Some((b'(', rest)) => front(rest, 2),
+        Some((b'(', rest)) => prefix(rest, 2),
         Some((b'[', rest)) => bracketed(rest),
-        _ => front(text, 1),
+        _ => prefix(text, 1),
     }
 }
 
@@ -400,7 +400,7 @@ impl Escape {
             Escape::Argument => Unit::unsure(2, text),
             Escape::Named => with_name(byte, text, strings),
             Escape::Register => Unit::unsure(1 + register_len(text), text),
-            Escape::Pair => named(3, front(text, 2)),
+            Escape::Pair => named(3, prefix(text, 2)),
             Escape::Bracket => named(2 + len_before(b']', text), bracketed(text)),
             Escape::Delimited => Unit::unsure(1 + delimited_len(text), text),
             Escape::Size => Unit::only(1 + size_len(text), Does::Nothing),

@@ -143,9 +143,9 @@ right_at n g p h inside =
     let place : l.place ≡ min (p + total n (width_at g) + total n (gap_at g)) most = place_at n g p h in
     let width : (column l.grid n).width ≡ width_at g n = laid_keeps (λ (x : Column). x.width) (λ left x. refl) n n (laying g p) in
     let there : n < columns l.grid = subst (λ (k : ℕ). n < k) (sym (laid_count n (laying g p))) inside in
-    let met : (column (column_laid n l.place l.grid).grid n).right ≡ sum l.place (column l.grid n).width =
+    let agreed : (column (column_laid n l.place l.grid).grid n).right ≡ sum l.place (column l.grid n).width =
     ap (λ (x : Column). x.right) (get_or-set_same l.grid.columns.items n (laid l.place (column l.grid n)) fresh there) in
-    omega (arith, place, width, met)
+    omega (arith, place, width, agreed)
 
 last_end : (n : ℕ) (g h : Grid) → columns h ≡ suc n → table_end h ≡ sum (sum (column h n).right (right_edge h)) h.edges.right
 last_end n g h is =

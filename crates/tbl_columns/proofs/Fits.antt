@@ -6,7 +6,7 @@ use Rattle.tbl_columns.specs.declared.grid.Cell.{Cell}
 use Rattle.tbl_columns.specs.declared.grid.Column.{Column}
 use Rattle.tbl_columns.specs.declared.grid.Grid.{Grid}
 use Rattle.tbl_columns.specs.Cells.{columns_over}
-use Rattle.tbl_columns.specs.Columns.{Dealing, dealing, dealt_at, equal_column, front_cells, is_alpha, is_number, needs, spans, made_equal, measured, measured_cell, measured_cells, measured_fields, measured_spans, measures, settled_column, settled_columns, left_for, span_width, spanned_cell, widened, wider, widest_equal, widest_of, with_field, with_width}
+use Rattle.tbl_columns.specs.Columns.{Dealing, dealing, dealt_at, equal_column, prefix_cells, is_alpha, is_number, needs, spans, made_equal, measured, measured_cell, measured_cells, measured_fields, measured_spans, measures, settled_column, settled_columns, left_for, span_width, spanned_cell, widened, wider, widest_equal, widest_of, with_field, with_width}
 use Rattle.tbl_columns.specs.Counted.{alpha_width, as_wide, with_alpha, with_number, with_text}
 use Rattle.tbl_columns.specs.Laws.{FieldsFit}
 use Rattle.tbl_columns.specs.Held.{cell_of, column, columns, fresh, no_cell}
@@ -17,7 +17,7 @@ use Rattle.tbl_columns.proofs.Turns.{if_least, if_same, if_true, later, set_has,
 -- ---- what a column has room for by the fields that count for it
 
 abbrev pub room : Column → ℕ
-room c = max (max c.width (sum c.front c.back)) (alpha_width c)
+room c = max (max c.width (sum c.prefix c.back)) (alpha_width c)
 
 alpha_part : (b : Bool) (alpha width : ℕ) → (if b then sum alpha 2 else 0) ≤ sum (max alpha width) 2
 alpha_part true alpha width = omega arith
@@ -26,8 +26,8 @@ alpha_part false alpha width = omega arith
 alpha_keeps : (width : ℕ) (c : Column) → room c ≤ room (with_alpha width c)
 alpha_keeps width c = let h : alpha_width c ≤ sum (max c.alpha width) 2 = alpha_part c.alphas c.alpha width in omega (arith, h)
 
-number_keeps : (width front : ℕ) (c : Column) → room c ≤ room (with_number width front c)
-number_keeps width front c = omega arith
+number_keeps : (width prefix : ℕ) (c : Column) → room c ≤ room (with_number width prefix c)
+number_keeps width prefix c = omega arith
 
 text_keeps : (width : ℕ) (c : Column) → room c ≤ room (with_text width c)
 text_keeps width c = omega arith
@@ -35,21 +35,21 @@ text_keeps width c = omega arith
 field_keeps : (t : Grid) (f : Cell) (c : Column) → room c ≤ room (with_field t f c)
 field_keeps t f c =
     if_least room (room c) (is_alpha f) (with_alpha f.width c)
-    (if is_number f then with_number f.width (front_cells t f) c else with_text f.width c)
+    (if is_number f then with_number f.width (prefix_cells t f) c else with_text f.width c)
     (alpha_keeps f.width c)
-    (if_least room (room c) (is_number f) (with_number f.width (front_cells t f) c) (with_text f.width c)
-    (number_keeps f.width (front_cells t f) c) (text_keeps f.width c))
+    (if_least room (room c) (is_number f) (with_number f.width (prefix_cells t f) c) (with_text f.width c)
+    (number_keeps f.width (prefix_cells t f) c) (text_keeps f.width c))
 
 -- ---- a field counts
 
-counts : (alpha number : Bool) (width front : ℕ) (c : Column) → sum width (if alpha then 2 else 0)
-    ≤ room (if alpha then with_alpha width c else if number then with_number width front c else with_text width c)
-counts true number width front c = omega arith
-counts false true width front c = omega arith
-counts false false width front c = omega arith
+counts : (alpha number : Bool) (width prefix : ℕ) (c : Column) → sum width (if alpha then 2 else 0)
+    ≤ room (if alpha then with_alpha width c else if number then with_number width prefix c else with_text width c)
+counts true number width prefix c = omega arith
+counts false true width prefix c = omega arith
+counts false false width prefix c = omega arith
 
 field_counts : (t : Grid) (f : Cell) (c : Column) → needs f ≤ room (with_field t f c)
-field_counts t f c = counts (is_alpha f) (is_number f) f.width (front_cells t f) c
+field_counts t f c = counts (is_alpha f) (is_number f) f.width (prefix_cells t f) c
 
 -- ---- all fields of one column
 
@@ -79,12 +79,12 @@ cell_counts t u n cells count counts alone inside =
     let f : Cell = cell_of t n in
     let is : cell_of u n ≡ f = ap (λ (xs : Items Cell). get_or xs.items n no_cell) cells in
     let inner : f.first < columns u = subst (λ (k : ℕ). f.first < k) (sym count) inside in
-    let met : measured_cell n u ≡ measured f u =
+    let agreed : measured_cell n u ≡ measured f u =
     ap (λ (g : Cell). if measures g && not (spans g) then measured g u else u) is
     ∙ if_true (measures f && not (spans f)) (measured f u) u (both_true (measures f) (spans f) counts alone) in
     let there : column (measured f u) f.first ≡ with_field u f (column u f.first) =
     get_or-set_same u.columns.items f.first (with_field u f (column u f.first)) fresh inner in
-    subst (λ (x : Column). needs f ≤ room x) (sym (ap (λ (v : Grid). column v f.first) met ∙ there))
+    subst (λ (x : Column). needs f ≤ room x) (sym (ap (λ (v : Grid). column v f.first) agreed ∙ there))
     (field_counts u f (column u f.first))
 
 fields_count : (t : Grid) (n : ℕ) → n < length t.cells.items
@@ -94,14 +94,14 @@ fields_count t n within counts alone inside =
     let f : Cell = cell_of t n in
     let c : ℕ = f.first in
     let u : Grid = in_turn n measured_cell t in
-    let met : needs f ≤ room (column (measured_cell n u) c) =
+    let agreed : needs f ≤ room (column (measured_cell n u) c) =
     cell_counts t u n
     (turn_same (λ (v : Grid). v.cells) measured_cell (measured_same (λ (v : Grid). v.cells) (λ v f. refl)) n t)
     (turn_same columns measured_cell (measured_same columns columns_put) n t)
     counts alone inside in
     let rest : room (column (in_turn (suc n) measured_cell t) c) ≤ room (column (measured_cells t) c) =
     later (λ (v : Grid). room (column v c)) measured_cell (measured_keeps c) (suc n) (length t.cells.items) t (omega (arith, within)) in
-    omega (arith, met, rest)
+    omega (arith, agreed, rest)
 
 -- ---- columns become as wide as what counts for them
 
@@ -193,8 +193,8 @@ equal_stays equal width widest c n u fits stays = equal_in (column u n).equal re
     equal_in : (b : Bool) → (column u n).equal ≡ b → Stays equal width (column (if b then record u { columns = put n (with_width widest (column u n)) u.columns } else u) c)
     equal_in true e = set_has (Stays equal width) u.columns.items n (with_width widest (column u n)) fresh c stays
         (λ at.
-        let as_met : (column u n).equal ≡ equal = ap (λ (m : ℕ). (column u m).equal) (sym at) ∙ stays.same in
-        record { same = as_met; no_less = fits (sym as_met ∙ e) })
+        let as_agreed : (column u n).equal ≡ equal = ap (λ (m : ℕ). (column u m).equal) (sym at) ∙ stays.same in
+        record { same = as_agreed; no_less = fits (sym as_agreed ∙ e) })
     equal_in false e = stays
 
 pub equal_width : (c width : ℕ) (u : Grid) → width ≤ (column u c).width → width ≤ (column (made_equal u) c).width
@@ -213,12 +213,12 @@ pub fields_fit : FieldsFit
 fields_fit t n within counts alone inside =
     let f : Cell = cell_of t n in
     let c : ℕ = f.first in
-    let met : needs f ≤ room (column (measured_cells t) c) = fields_count t n within counts alone inside in
+    let agreed : needs f ≤ room (column (measured_cells t) c) = fields_count t n within counts alone inside in
     let there : c < columns (measured_cells t) =
     subst (λ (k : ℕ). c < k) (sym (turn_same columns measured_cell (measured_same columns columns_put) (length t.cells.items) t)) inside in
     let settled : room (column (measured_cells t) c) ≤ (column (measured_fields t) c).width = settled_fits (measured_cells t) c there in
     let v : Grid = made_equal (measured_fields t) in
-    let even : needs f ≤ (column v c).width = equal_width c (needs f) (measured_fields t) (omega (arith, met, settled)) in
+    let even : needs f ≤ (column v c).width = equal_width c (needs f) (measured_fields t) (omega (arith, agreed, settled)) in
     let spanned : width_in (column v c) ≤ width_in (column (measured_spans v) c) = spans_width c v in
     let small : needs f ≤ most = omega arith in
     equal_width c (needs f) (measured_spans v) (omega (arith, even, spanned, small))

@@ -4,7 +4,7 @@ use Rattle.std.proofs.lemmas.List.{get_or-set_same}
 use Rattle.tbl_columns.specs.declared.grid.Cell.{Cell}
 use Rattle.tbl_columns.specs.declared.grid.Column.{Column}
 use Rattle.tbl_columns.specs.declared.grid.Grid.{Grid}
-use Rattle.tbl_columns.specs.Columns.{equal_column, front_cells, is_alpha, is_number, made_equal, measured_cell, measured_cells, measured_fields, measured_spans, settled_column, spanned_cell, widest_equal, wider, with_field, with_width}
+use Rattle.tbl_columns.specs.Columns.{equal_column, prefix_cells, is_alpha, is_number, made_equal, measured_cell, measured_cells, measured_fields, measured_spans, settled_column, spanned_cell, widest_equal, wider, with_field, with_width}
 use Rattle.tbl_columns.specs.Counted.{as_wide, with_alpha, with_number, with_text}
 use Rattle.tbl_columns.specs.Laws.{EqualColumns, LeastFits}
 use Rattle.tbl_columns.specs.Held.{column, columns, fresh}
@@ -16,12 +16,12 @@ use Rattle.tbl_columns.proofs.Turns.{if_same, if_true, later, later_has, set_has
 -- ---- what a column keeps where fields count for it
 
 field_same : {B : Type 0} (K : Column → B) → ((width : ℕ) (c : Column) → K (with_text width c) ≡ K c) → ((width : ℕ) (c : Column) → K (with_alpha width c) ≡ K c)
-    → ((width front : ℕ) (c : Column) → K (with_number width front c) ≡ K c) → (t : Grid) (f : Cell) (c : Column) → K (with_field t f c) ≡ K c
+    → ((width prefix : ℕ) (c : Column) → K (with_number width prefix c) ≡ K c) → (t : Grid) (f : Cell) (c : Column) → K (with_field t f c) ≡ K c
 field_same K text alpha number t f c =
     if_same K (is_alpha f) (with_alpha f.width c)
-    (if is_number f then with_number f.width (front_cells t f) c else with_text f.width c) (K c) (alpha f.width c)
-    (if_same K (is_number f) (with_number f.width (front_cells t f) c) (with_text f.width c) (K c)
-    (number f.width (front_cells t f) c) (text f.width c))
+    (if is_number f then with_number f.width (prefix_cells t f) c else with_text f.width c) (K c) (alpha f.width c)
+    (if_same K (is_number f) (with_number f.width (prefix_cells t f) c) (with_text f.width c) (K c)
+    (number f.width (prefix_cells t f) c) (text f.width c))
 
 cells_same : {B : Type 0} (K : Column → B) → ((t : Grid) (f : Cell) (c : Column) → K (with_field t f c) ≡ K c) → (c : ℕ) (t : Grid)
     → K (column (measured_cells t) c) ≡ K (column t c)
@@ -53,9 +53,9 @@ least_settled t c inside =
     ∙ cells_same (λ (x : Column). x.least_cells) (field_same (λ (x : Column). x.least_cells) (λ w x. refl) (λ w x. refl) (λ w f x. refl)) c t in
     let there : c < columns v = subst (λ (k : ℕ). c < k) (sym (cells_count t)) inside in
     let inner : c < columns u = subst (λ (k : ℕ). c < k) (sym (turn_same columns settled_column settled_count c v)) there in
-    let met : column (settled_column c u) c ≡ as_wide (column u c) = get_or-set_same u.columns.items c (as_wide (column u c)) fresh inner in
+    let agreed : column (settled_column c u) c ≡ as_wide (column u c) = get_or-set_same u.columns.items c (as_wide (column u c)) fresh inner in
     let now : max (column t c).least_cells 1 ≤ (column (settled_column c u) c).width =
-    subst (λ (x : Column). max (column t c).least_cells 1 ≤ x.width) (sym met) (least_wide (column u c) (column t c).least_cells kept) in
+    subst (λ (x : Column). max (column t c).least_cells 1 ≤ x.width) (sym agreed) (least_wide (column u c) (column t c).least_cells kept) in
     let rest : (column (in_turn (suc c) settled_column v) c).width ≤ (column (measured_fields t) c).width =
     later (λ (w : Grid). (column w c).width) settled_column (settled_width c) (suc c) (columns v) v (omega (arith, there)) in
     omega (arith, now, rest)
@@ -118,10 +118,10 @@ made_width v c inside e =
     let u : Grid = in_turn c (equal_column widest) v in
     let flag : (column u c).equal ≡ true = turn_same (λ (w : Grid). (column w c).equal) (equal_column widest) (equal_flag widest c) c v ∙ e in
     let inner : c < columns u = subst (λ (k : ℕ). c < k) (sym (turn_same columns (equal_column widest) (equal_count widest) c v)) inside in
-    let met : equal_column widest c u ≡ record u { columns = put c (with_width widest (column u c)) u.columns } =
+    let agreed : equal_column widest c u ≡ record u { columns = put c (with_width widest (column u c)) u.columns } =
     if_true (column u c).equal (record u { columns = put c (with_width widest (column u c)) u.columns }) u flag in
     let there : (column (equal_column widest c u) c).width ≡ widest =
-    ap (λ (w : Grid). (column w c).width) met
+    ap (λ (w : Grid). (column w c).width) agreed
     ∙ ap (λ (x : Column). x.width) (get_or-set_same u.columns.items c (with_width widest (column u c)) fresh inner) in
     later_has (λ (w : Grid). (column w c).width ≡ widest) (equal_column widest) (equal_stays widest c) (suc c) (columns v) v (omega (arith, inside)) there
 

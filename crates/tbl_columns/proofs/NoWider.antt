@@ -4,7 +4,7 @@ use Rattle.nr_vectors.specs.Items.{Items}
 use Rattle.tbl_columns.specs.declared.grid.Cell.{Cell}
 use Rattle.tbl_columns.specs.declared.grid.Column.{Column}
 use Rattle.tbl_columns.specs.declared.grid.Grid.{Grid}
-use Rattle.tbl_columns.specs.Columns.{front_cells, is_alpha, is_number, measured, with_field}
+use Rattle.tbl_columns.specs.Columns.{prefix_cells, is_alpha, is_number, measured, with_field}
 use Rattle.tbl_columns.specs.Counted.{with_alpha, with_number, with_text}
 use Rattle.tbl_columns.specs.Held.{column, fresh}
 use Rattle.tbl_table.specs.Lists.{put}
@@ -16,8 +16,8 @@ pub narrow : (g : Grid) (f : Cell) → is_alpha f ≡ false → is_number f ≡ 
 narrow g f alpha number within =
     let c = column g f.first in
     let most : max c.width f.width ≡ c.width = omega (arith, within) in
-    left (is_alpha f) (with_alpha f.width c) (if is_number f then with_number f.width (front_cells g f) c else with_text f.width c) alpha
-    ∙ left (is_number f) (with_number f.width (front_cells g f) c) (with_text f.width c) number
+    left (is_alpha f) (with_alpha f.width c) (if is_number f then with_number f.width (prefix_cells g f) c else with_text f.width c) alpha
+    ∙ left (is_number f) (with_number f.width (prefix_cells g f) c) (with_text f.width c) number
     ∙ ap (λ (m : ℕ). record c { width = m }) most
 
 pub measured_own : (f : Cell) (g : Grid) → with_field g f (column g f.first) ≡ column g f.first → measured f g ≡ g

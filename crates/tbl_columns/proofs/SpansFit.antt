@@ -130,10 +130,10 @@ widened_fits u first last width h inside few small =
     let at : first + j ≡ last = omega (arith, h) in
     let whole : ℕ = width - together (suc j) u first last in
     let lack : Dealing = dealing u whole in
-    let met : Enough width (suc j) first last (columns u) lack =
+    let agreed : Enough width (suc j) first last (columns u) lack =
     record { enough = omega arith; fits = omega (arith, small); same = refl } in
     let before : Enough width (suc j) first last (columns u) (in_turn j (λ n. dealt_at whole (suc j) last (first + n)) lack) =
-    all_enough whole (suc j) width (suc j) first last (columns u) j lack (omega arith) (omega (arith, at, inside)) small met in
+    all_enough whole (suc j) width (suc j) first last (columns u) j lack (omega arith) (omega (arith, at, inside)) small agreed in
     subst (λ (k : ℕ). width ≤ together k (in_turn k (λ n. dealt_at (width - together k u first last) k last (first + n))
     (dealing u (width - together k u first last))).grid first last) over
     (last_enough whole width j first last (columns u) (in_turn j (λ n. dealt_at whole (suc j) last (first + n)) lack) at inside few small before)
@@ -205,7 +205,7 @@ spans_fit t n within counts over inside few =
     let count_u : columns u ≡ columns t =
     turn_same columns spanned_cell (spanned_same columns (λ w c more. length-set w.columns.items c (wider more (column w c)))) n v ∙ count_v in
     let is : cell_of u n ≡ f = ap (λ (xs : Items Cell). get_or xs.items n no_cell) cells_u in
-    let met : spanned_cell n u ≡ widened f.first f.last (needs f) u =
+    let agreed : spanned_cell n u ≡ widened f.first f.last (needs f) u =
     ap (λ (g : Cell). if measures g && spans g then widened g.first g.last (needs g) u else u) is
     ∙ if_true (measures f && spans f) (widened f.first f.last (needs f) u) u (both (measures f) (spans f) counts over) in
     let ordered : f.first ≤ f.last = grind (arith, nat_tests, over) in
@@ -214,7 +214,7 @@ spans_fit t n within counts over inside few =
     let now : needs f ≤ span_width (widened f.first f.last (needs f) u) f.first f.last =
     widened_fits u f.first f.last (needs f) ordered there small (omega arith) in
     let next : needs f ≤ span_width (spanned_cell n u) f.first f.last =
-    subst (λ (w : Grid). needs f ≤ span_width w f.first f.last) (sym met) now in
+    subst (λ (w : Grid). needs f ≤ span_width w f.first f.last) (sym agreed) now in
     let rows : n < length v.cells.items = subst (λ (xs : Items Cell). n < length xs.items) (sym cells_v) within in
     let rest : span_width (in_turn (suc n) spanned_cell v) f.first f.last ≤ span_width (measured_spans v) f.first f.last =
     later (λ (w : Grid). span_width w f.first f.last) spanned_cell

@@ -103,12 +103,12 @@ least_has : (g : Grid) (l n : ℕ) (fs : List Cell) (c : ℕ) → n < length fs 
     → least_of_cell g (get_or fs n no_cell) ≤ least_by_fields g c l fs
 least_has g l n [] c h at alone = absurd (omega (arith, h))
 least_has g l zero (f ∷ fs) c h at alone =
-    let met : (if (f.first == c) && not (spans f) then max (least_of_cell g f) l else l) ≡ max (least_of_cell g f) l =
+    let agreed : (if (f.first == c) && not (spans f) then max (least_of_cell g f) l else l) ≡ max (least_of_cell g f) l =
     taken ((f.first == c) && not (spans f)) (max (least_of_cell g f) l) l (alone_true f.first c (spans f) at alone) in
     let rest : (if (f.first == c) && not (spans f) then max (least_of_cell g f) l else l)
     ≤ least_by_fields g c (if (f.first == c) && not (spans f) then max (least_of_cell g f) l else l) fs =
     least_grows g c (if (f.first == c) && not (spans f) then max (least_of_cell g f) l else l) fs in
-    omega (arith, met, rest)
+    omega (arith, agreed, rest)
 least_has g l (suc n) (f ∷ fs) c h at alone =
     least_has g (if (f.first == c) && not (spans f) then max (least_of_cell g f) l else l) n fs c (omega (arith, h)) at alone
 
@@ -410,9 +410,9 @@ laid_fits x wide can leasts_fit = by_count (columns (laid_out x)) refl
         laid_end n x (sym alike.count ∙ e) ∙ ap (λ (k : ℕ). min k most) (sym same) in
         let narrow : table_end (made_narrow (sum (table_end (laid_out x)) 1 - line_room (laid_out x)) (laid_out x)) ≤ line_room (laid_out x) =
         narrow_fits n (laid_out x) e ended wide can leasts_fit in
-        let met : narrowed (laid_out x) ≡ made_narrow (sum (table_end (laid_out x)) 1 - line_room (laid_out x)) (laid_out x) =
+        let agreed : narrowed (laid_out x) ≡ made_narrow (sum (table_end (laid_out x)) 1 - line_room (laid_out x)) (laid_out x) =
         taken (is_too_wide (laid_out x)) (made_narrow (sum (table_end (laid_out x)) 1 - line_room (laid_out x)) (laid_out x)) (laid_out x) wide in
-        subst (λ (u : Grid). table_end u ≤ line_room (laid_out x)) (sym met) narrow
+        subst (λ (u : Grid). table_end u ≤ line_room (laid_out x)) (sym agreed) narrow
 
 pub tables_fit : TablesFit
 tables_fit g wide can leasts_fit = laid_fits (line_shared (by_blocks (by_fields g))) wide can leasts_fit

@@ -107,18 +107,18 @@ is_given (Some x) = true
 
 -- it is aligned with others
 abbrev pub is_number : Cell → Bool
-is_number f = is_number_kind f.key.kind && is_text f.field.form && is_given f.field.front
+is_number f = is_number_kind f.key.kind && is_text f.field.form && is_given f.field.prefix
 
 abbrev pub is_alpha : Cell → Bool
 is_alpha f = is_alpha_kind f.key.kind
 
 -- what of a number stands before the place where it is aligned, and how many cells that takes
-abbrev pub front_span : Cell → Span
-front_span f =
-    record { start = f.field.span.start; «end» = min (sum f.field.span.start (or_nothing f.field.front)) f.field.span.«end» }
+abbrev pub prefix_span : Cell → Span
+prefix_span f =
+    record { start = f.field.span.start; «end» = min (sum f.field.span.start (or_nothing f.field.prefix)) f.field.span.«end» }
 
-abbrev pub front_cells : Grid → Cell → ℕ
-front_cells g f = (extent_of (text_of g.table (front_span f)) g.blocks.strings.items).cells
+abbrev pub prefix_cells : Grid → Cell → ℕ
+prefix_cells g f = (extent_of (text_of g.table (prefix_span f)) g.blocks.strings.items).cells
 
 -- what its column has more than it, and what it takes of its columns
 abbrev pub beside : Cell → ℕ
@@ -135,7 +135,7 @@ measures f = has_text f.field && not f.key.zero && not (is_given f.block)
 abbrev pub with_field : Grid → Cell → Column → Column
 with_field g f c =
     if is_alpha f then with_alpha f.width c else
-    if is_number f then with_number f.width (front_cells g f) c else with_text f.width c
+    if is_number f then with_number f.width (prefix_cells g f) c else with_text f.width c
 
 abbrev pub measured : Cell → Grid → Grid
 measured f g = record g { columns = put f.first (with_field g f (column g f.first)) g.columns }

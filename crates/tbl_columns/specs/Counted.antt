@@ -14,8 +14,8 @@ with_alpha width c = record c { alphas = true; alpha = max c.alpha width }
 
 -- a number, of which so much stands before its place
 abbrev pub with_number : ℕ → ℕ → Column → Column
-with_number width front c =
-    record c { numbers = true; front = max c.front front; back = max c.back (width - front) }
+with_number width prefix c =
+    record c { numbers = true; prefix = max c.prefix prefix; back = max c.back (width - prefix) }
 
 -- ---- all of them together
 
@@ -25,4 +25,4 @@ alpha_width c = if c.alphas then sum c.alpha 2 else 0
 -- one cell at least
 abbrev pub as_wide : Column → Column
 as_wide c =
-    record c { width = max (max (max (max c.width (sum c.front c.back)) (alpha_width c)) c.least_cells) 1 }
+    record c { width = max (max (max (max c.width (sum c.prefix c.back)) (alpha_width c)) c.least_cells) 1 }

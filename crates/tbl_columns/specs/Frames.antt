@@ -82,8 +82,8 @@ abbrev pub was_ruled : Grid → ℕ → ℕ → Bool
 was_ruled g r c = nat_lt 0 c && is_ruled g r (c - 1)
 
 -- a rule of a field meets the bars of the row right above one
-abbrev pub rules_meet : Grid → ℕ → ℕ → Bool
-rules_meet g r c = was_ruled g r c || (nat_lt c (columns g) && is_ruled g r c)
+abbrev pub rules_join : Grid → ℕ → ℕ → Bool
+rules_join g r c = was_ruled g r c || (nat_lt c (columns g) && is_ruled g r c)
 
 abbrev pub last_in : Grid → ℕ → Item → Option ℕ
 last_in g line (items.Row last) = if (row g.table last).line == line then None else Some last
@@ -98,7 +98,7 @@ abbrev pub near : Grid → ℕ → Near
 near g r = record { line = line g.table (row g.table r).line; above = row_above g r; below = row_below g r }
 
 abbrev pub from_above : Grid → ℕ → ℕ → ℕ → ℕ
-from_above g r c above = if rules_meet g r c then bars_of g above c else 0
+from_above g r c above = if rules_join g r c then bars_of g above c else 0
 
 abbrev pub from_last : Grid → ℕ → ℕ → Option ℕ → ℕ
 from_last g r c None = 0

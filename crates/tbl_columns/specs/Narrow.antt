@@ -41,7 +41,7 @@ abbrev pub least_of_cell : Grid → Cell → ℕ
 least_of_cell g f = least_in f (block_of g f)
 
 abbrev pub least_by_numbers : Grid → ℕ → ℕ
-least_by_numbers g c = max (sum (column g c).front (column g c).back) 1
+least_by_numbers g c = max (sum (column g c).prefix (column g c).back) 1
 
 -- by the fields that stand in a column alone
 abbrev pub with_least : Grid → ℕ → Cell → ℕ → ℕ

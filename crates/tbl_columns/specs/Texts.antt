@@ -158,12 +158,12 @@ is_same true b = b
 is_same false true = false
 is_same false false = true
 
-abbrev pub is_due : Grid → Cell → Bool → Bool → Bool
-is_due g f over wide = is_given f.block && is_same (spans f) over && is_same (is_wide g f) wide
+abbrev pub is_pending : Grid → Cell → Bool → Bool → Bool
+is_pending g f over wide = is_given f.block && is_same (spans f) over && is_same (is_wide g f) wide
 
 abbrev pub filled_at : Bool → Bool → ℕ → Grid → Grid
 filled_at over wide n g =
-    if is_due g (cell_of g n) over wide then counted_cell n (filled_cell n (fill_width g (cell_of g n)) g) else g
+    if is_pending g (cell_of g n) over wide then counted_cell n (filled_cell n (fill_width g (cell_of g n)) g) else g
 
 abbrev pub filled_some : Bool → Bool → Grid → Grid
 filled_some over wide g = in_turn (length g.cells.items) (filled_at over wide) g

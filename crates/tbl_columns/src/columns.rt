@@ -36,7 +36,7 @@ impl Cell {
     {
         matches!(self.key.kind, Kind::Number)
             && matches!(self.field.form, Form::Text)
-            && self.field.front.is_some()
+            && self.field.prefix.is_some()
     }
 
     /// Whether it is one of `a`.
@@ -244,23 +244,23 @@ impl Grid {
     }
 
     /// What of a number stands before the place where it is aligned.
-    pub fn front_span(&self, cell: Cell) -> Span
-        ensures { result ≡ specs.front_span cell }
+    pub fn prefix_span(&self, cell: Cell) -> Span
+        ensures { result ≡ specs.prefix_span cell }
     {
         let span = cell.field.span;
-        let front = or_nothing(cell.field.front);
+        let prefix = or_nothing(cell.field.prefix);
         Span {
             start: span.start,
-            end: span.start.saturating_add(front).min(span.end),
+            end: span.start.saturating_add(prefix).min(span.end),
         }
     }
 
     /// How many cells that takes.
-    pub fn front_cells(&self, cell: Cell) -> usize
-        ensures { result ≡ specs.front_cells self.now cell }
+    pub fn prefix_cells(&self, cell: Cell) -> usize
+        ensures { result ≡ specs.prefix_cells self.now cell }
     {
         self.blocks
-            .extent(self.table.bytes(self.front_span(cell)))
+            .extent(self.table.bytes(self.prefix_span(cell)))
             .cells
     }
 
@@ -272,7 +272,7 @@ impl Grid {
             return column.with_alpha(cell.width);
         }
         if cell.is_number() {
-            return column.with_number(cell.width, self.front_cells(cell));
+            return column.with_number(cell.width, self.prefix_cells(cell));
         }
         column.with_text(cell.width)
     }

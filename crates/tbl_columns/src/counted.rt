@@ -28,13 +28,13 @@ impl Column {
     }
 
     /// A number counts for it, where its width shows.
-    pub(crate) fn with_number(self, width: usize, front: usize) -> Column
-        ensures { result ≡ specs.with_number width front self }
+    pub(crate) fn with_number(self, width: usize, prefix: usize) -> Column
+        ensures { result ≡ specs.with_number width prefix self }
     {
         Column {
             numbers: true,
-            front: self.front.max(front),
-            back: self.back.max(width.saturating_sub(front)),
+            prefix: self.prefix.max(prefix),
+            back: self.back.max(width.saturating_sub(prefix)),
             ..self
         }
     }
@@ -54,7 +54,7 @@ impl Column {
     pub(crate) fn as_wide(self) -> Column
         ensures { result ≡ specs.as_wide self }
     {
-        let numbers = self.front.saturating_add(self.back);
+        let numbers = self.prefix.saturating_add(self.back);
         let least = self.least_cells;
         let wide = self.width.max(numbers).max(self.alpha_width());
         Column {

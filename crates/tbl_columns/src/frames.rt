@@ -164,7 +164,7 @@ impl Grid {
     fn bars_from_above(&self, row: usize, above: usize, column: usize) -> usize
         ensures { result ≡ specs.from_above self.now row column above }
     {
-        if self.rules_meet(row, column) {
+        if self.rules_join(row, column) {
             self.bars_of(above, column)
         } else {
             0
@@ -292,8 +292,8 @@ impl Grid {
     }
 
     /// Whether a rule of a field ends or begins before a column, or after the last one.
-    pub fn rules_meet(&self, row: usize, column: usize) -> bool
-        ensures { result ≡ specs.rules_meet self.now row column }
+    pub fn rules_join(&self, row: usize, column: usize) -> bool
+        ensures { result ≡ specs.rules_join self.now row column }
     {
         self.was_ruled(row, column) || (column < self.columns.len() && self.is_ruled(row, column))
     }

@@ -93,7 +93,7 @@ pub struct Column {
     /// There is one.
     pub alphas: bool,
     /// The most that stands before the place where numbers are aligned.
-    pub front: usize,
+    pub prefix: usize,
     /// And after it.
     pub back: usize,
     /// There are numbers.
@@ -219,7 +219,7 @@ impl Column {
             least_cells: 0,
             alpha: 0,
             alphas: false,
-            front: 0,
+            prefix: 0,
             back: 0,
             numbers: false,
             gap: GAP,

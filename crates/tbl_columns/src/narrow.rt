@@ -59,7 +59,7 @@ impl Grid {
         ensures { result ≡ specs.least_by_numbers self.now number }
     {
         let column = self.column(number);
-        column.front.saturating_add(column.back).max(1)
+        column.prefix.saturating_add(column.back).max(1)
     }
 
     /// How narrow columns may be by their numbers.

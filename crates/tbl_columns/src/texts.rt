@@ -242,19 +242,19 @@ impl Grid {
     }
 
     /// Whether a field is a block that is filled now: over several columns or not, before the sharing or after it.
-    fn is_due(&self, cell: Cell, spans: bool, wide: bool) -> bool
-        ensures { result ≡ specs.is_due self.now cell spans wide }
+    fn is_pending(&self, cell: Cell, spans: bool, wide: bool) -> bool
+        ensures { result ≡ specs.is_pending self.now cell spans wide }
     {
         cell.block.is_some() && cell.spans() == spans && self.is_wide(cell) == wide
     }
 
     /// A block is filled, as wide as its columns have become, if it is its turn.
-    fn fill_if_due(&mut self, number: usize, spans: bool, wide: bool)
+    fn fill_if_pending(&mut self, number: usize, spans: bool, wide: bool)
         ensures value { self.new ≡ specs.filled_at spans wide number self.old }
         ensures room { held.emptied self.new ≡ held.emptied self.old }
     {
         let cell = self.cell_of(number);
-        if self.is_due(cell, spans, wide) {
+        if self.is_pending(cell, spans, wide) {
             self.fill_cell(number, self.fill_width(cell));
             self.count_block(number);
         }
@@ -267,7 +267,7 @@ impl Grid {
         ensures room { held.emptied self.new ≡ held.emptied self.old }
     {
         for number in 0..self.cells.len() {
-            self.fill_if_due(number, spans, wide);
+            self.fill_if_pending(number, spans, wide);
         }
     }
 

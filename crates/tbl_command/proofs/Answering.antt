@@ -131,8 +131,8 @@ next_word awaits known job place words d within is leads answer comes =
 
 pub no_word : (awaits known : Bool) (job : Job) (place : ℕ) (words : List (Bor (List ℕ))) → length words ≤ place → awaits ≡ known
     → Leads awaits job place words → (answer : Result Job BadWord) → ComesTo known job place [] answer → IsAnswer (texts words) answer
-no_word awaits known job place words behind is leads answer comes =
-    leads answer (subst (λ (ws : List (Bor (List ℕ))). ComesTo awaits job place (texts ws) answer) (sym (drop_all place words behind))
+no_word awaits known job place words after is leads answer comes =
+    leads answer (subst (λ (ws : List (Bor (List ℕ))). ComesTo awaits job place (texts ws) answer) (sym (drop_all place words after))
     (subst (λ (b : Bool). ComesTo b job place [] answer) (sym is) comes))
 
 pub goes_on : (awaits known : Bool) (job so : Job) (place : ℕ) (words : List (List ℕ)) (answer : Result Job BadWord) → awaits ≡ known → job ≡ so

@@ -8,7 +8,7 @@ use Rattle.tbl_reader.specs.declared.running.Outcome.TheVariants as outcomes
 use Rattle.tbl_setting.specs.Bounds.{Bounds}
 use Rattle.tbl_setting.specs.Running.{Ran}
 use Rattle.tbl_command.specs.Complaints.{lines_of}
-use Rattle.tbl_command.specs.Looking.{AreToldOf, all_wrong, bounds_for, goes_in_parts, lines_of_page, lines_of_tables}
+use Rattle.tbl_command.specs.Looking.{AreReportedOf, all_wrong, bounds_for, goes_in_parts, lines_of_page, lines_of_tables}
 use Rattle.tbl_command.specs.declared.arguments.Job.{Job}
 use Rattle.tbl_command.specs.declared.looking.Tables.{Tables}
 
@@ -20,10 +20,10 @@ came (Some p) (Some t) bytes q is comes ends =
     let same : p ≡ q = cc in
     sym (append-nil bytes) ∙ (ap (λ (l : List ℕ). bytes ++ l) (sym ends) ∙ (sym comes ∙ ap (λ (s : Supply). s.bytes) same))
 
-pub told_of : (job : Job) (b : Bounds) (first last : Option Supply) (held new : Option (List ℕ)) (kept : Items Complaint) (tables : Tables) (q : Supply)
+pub reported_of : (job : Job) (b : Bounds) (first last : Option Supply) (held new : Option (List ℕ)) (kept : Items Complaint) (tables : Tables) (q : Supply)
     → b ≡ bounds_for job → first ≡ Some q → Ran b first last held new kept tables.report.missed tables.report.uneven outcomes.Done
-    → kept.capacity ≡ 64 → tables.complaints.items ≡ kept.items → AreToldOf job q.bytes tables
-told_of job b first last held new kept tables q bounds is ran room items =
+    → kept.capacity ≡ 64 → tables.complaints.items ≡ kept.items → AreReportedOf job q.bytes tables
+reported_of job b first last held new kept tables q bounds is ran room items =
     let bytes = came first last ran.bytes q is ran.came ran.ends in
     let wrong : all_wrong b ran.bytes ≡ all_wrong (bounds_for job) q.bytes = ap (all_wrong b) bytes ∙ ap (λ (x : Bounds). all_wrong x q.bytes) bounds in
     record {
@@ -33,9 +33,9 @@ told_of job b first last held new kept tables q bounds is ran room items =
     }
 
 -- the lines about them are those of the page
-pub lines-told : (program name : List ℕ) (job : Job) (page : List ℕ) (tables : Tables) → AreToldOf job page tables
+pub lines-reported : (program name : List ℕ) (job : Job) (page : List ℕ) (tables : Tables) → AreReportedOf job page tables
     → lines_of_tables program name tables ≡ lines_of_page program name job page
-lines-told program name job page tables are =
+lines-reported program name job page tables are =
     ap (λ (x : List Complaint). lines_of program name x tables.report.missed tables.report.uneven) are.first
     ∙ (ap (λ (x : Bool). lines_of program name (take 64 (all_wrong (bounds_for job) page)) x tables.report.uneven) are.more
     ∙ ap (λ (x : Bool). lines_of program name (take 64 (all_wrong (bounds_for job) page)) (nat_lt 64 (length (all_wrong (bounds_for job) page))) x) are.parts)

@@ -6,7 +6,7 @@ use Rattle.tbl_command.specs.declared.arguments.Which.{Which}
 use Rattle.tbl_command.specs.declared.arguments.Which.TheVariants.{Formats, Row, Line}
 use Rattle.tbl_command.specs.declared.arguments.Wrong.{Wrong}
 use Rattle.tbl_command.specs.declared.arguments.Wrong.TheVariants.{Unknown, BadValue, UnknownTable, NoTable}
-use Rattle.tbl_command.specs.Arguments.{BeginsWith, IsBad, Means, front_of}
+use Rattle.tbl_command.specs.Arguments.{BeginsWith, IsBad, Means, prefix_of}
 
 second : (v w : List ℕ) → v ≡ w → get_or v 1 0 ≡ get_or w 1 0
 second v w is = ap (λ (bytes : List ℕ). get_or bytes 1 0) is
@@ -15,34 +15,34 @@ third : (v w : List ℕ) → v ≡ w → get_or v 2 0 ≡ get_or w 2 0
 third v w is = ap (λ (bytes : List ℕ). get_or bytes 2 0) is
 
 -- two options that are one word set the same, and the same stands after their prefixes
-same_front : (a b : Which) (v w : List ℕ) → front_of a ++ v ≡ front_of b ++ w → (a ≡ b) × (v ≡ w)
-same_front Formats Formats v w is = (refl, cc)
-same_front Formats Row v w is = absurd (omega (arith, third (front_of Formats ++ v) (front_of Row ++ w) is))
-same_front Formats Line v w is = absurd (omega (arith, second (front_of Formats ++ v) (front_of Line ++ w) is))
-same_front Row Formats v w is = absurd (omega (arith, third (front_of Row ++ v) (front_of Formats ++ w) is))
-same_front Row Row v w is = (refl, cc)
-same_front Row Line v w is = absurd (omega (arith, second (front_of Row ++ v) (front_of Line ++ w) is))
-same_front Line Formats v w is = absurd (omega (arith, second (front_of Line ++ v) (front_of Formats ++ w) is))
-same_front Line Row v w is = absurd (omega (arith, second (front_of Line ++ v) (front_of Row ++ w) is))
-same_front Line Line v w is = (refl, cc)
+same_prefix : (a b : Which) (v w : List ℕ) → prefix_of a ++ v ≡ prefix_of b ++ w → (a ≡ b) × (v ≡ w)
+same_prefix Formats Formats v w is = (refl, cc)
+same_prefix Formats Row v w is = absurd (omega (arith, third (prefix_of Formats ++ v) (prefix_of Row ++ w) is))
+same_prefix Formats Line v w is = absurd (omega (arith, second (prefix_of Formats ++ v) (prefix_of Line ++ w) is))
+same_prefix Row Formats v w is = absurd (omega (arith, third (prefix_of Row ++ v) (prefix_of Formats ++ w) is))
+same_prefix Row Row v w is = (refl, cc)
+same_prefix Row Line v w is = absurd (omega (arith, second (prefix_of Row ++ v) (prefix_of Line ++ w) is))
+same_prefix Line Formats v w is = absurd (omega (arith, second (prefix_of Line ++ v) (prefix_of Formats ++ w) is))
+same_prefix Line Row v w is = absurd (omega (arith, second (prefix_of Line ++ v) (prefix_of Row ++ w) is))
+same_prefix Line Line v w is = (refl, cc)
 
 -- each prefix begins with `-L` or with `-l`
-front_known : (which : Which) (digits : List ℕ) → BeginsWith (codes "-L") (front_of which ++ digits) ⊎ BeginsWith (codes "-l") (front_of which ++ digits)
-front_known Formats digits = inl (116 ∷ digits, refl)
-front_known Row digits = inl (114 ∷ digits, refl)
-front_known Line digits = inr (digits, refl)
+prefix_known : (which : Which) (digits : List ℕ) → BeginsWith (codes "-L") (prefix_of which ++ digits) ⊎ BeginsWith (codes "-l") (prefix_of which ++ digits)
+prefix_known Formats digits = inl (116 ∷ digits, refl)
+prefix_known Row digits = inl (114 ∷ digits, refl)
+prefix_known Line digits = inr (digits, refl)
 
 -- a word means one thing
 pub Means-one : (a b : Setting) (word : List ℕ) → Means a word → Means b word → b ≡ a
 Means-one a b word m n =
-    let same = same_front b.which a.which n.digits m.digits (sym n.word_is ∙ m.word_is) in
+    let same = same_prefix b.which a.which n.digits m.digits (sym n.word_is ∙ m.word_is) in
     let P : Which → ℕ → Setting = λ which limit. record { which = which; limit = limit } in
     ap (λ (which : Which). P which b.limit) same.0 ∙ ap (P a.which) (n.number ∙ ap (digits_value 10) same.1 ∙ sym m.number)
 
 -- a bad word means nothing
 pub Bad-means : (wrong : Wrong) (setting : Setting) (word : List ℕ) → IsBad wrong word → Means setting word → ⊥
 Bad-means Unknown setting word bad means =
-    elim (front_known setting.which means.digits) [
+    elim (prefix_known setting.which means.digits) [
       | inl begins ↦ bad.0 (begins.0, means.word_is ∙ begins.1)
       | inr begins ↦ bad.1 (begins.0, means.word_is ∙ begins.1)
     ]

@@ -11,7 +11,7 @@ use Rattle.tbl_reader.specs.declared.running.Outcome.{Outcome}
 use Rattle.tbl_reader.specs.declared.running.Outcome.TheVariants as outcomes
 use Rattle.tbl_setting.specs.declared.setting.Setting.{Setting}
 use Rattle.tbl_setting.specs.Bounds.{Bounds}
-use Rattle.tbl_setting.specs.Running.{PutsFront, Ran, set_page}
+use Rattle.tbl_setting.specs.Running.{PutsPrefix, Ran, set_page}
 use Rattle.filters.specs.Turning.{Begins, IsAll, Turned, is_write_fault, text_left}
 use Rattle.filters.specs.declared.endings.Ending.{Ending}
 use Rattle.tbl_command.specs.Converting.{ending_of, tbl}
@@ -28,7 +28,7 @@ came_all b (Some all) None bytes comes ends = absurd comes
 came_all b (Some all) (Some t) bytes comes ends = sym (comes ∙ ap (λ (l : List ℕ). bytes ++ l) ends ∙ append-nil bytes)
 
 either : (begun whole : List ℕ) (some all : List Piece) (t : Setting) (held new : Option (List ℕ)) (kept : Items Complaint) (missed uneven : Bool)
-    → PutsFront begun some t held new kept missed uneven ⊎ PutsFront whole all t held new kept missed uneven
+    → PutsPrefix begun some t held new kept missed uneven ⊎ PutsPrefix whole all t held new kept missed uneven
     → AppendsPrefix held new (whole ++ []) ⊎ AppendsPrefix held new begun
 either begun whole some all t held new kept missed uneven (inl p) = inr p.went_out
 either begun whole some all t held new kept missed uneven (inr p) = inl (rw (append-nil whole) p.went_out)

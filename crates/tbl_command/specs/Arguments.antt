@@ -25,10 +25,10 @@ is_option (byte ∷ []) = false
 is_option (byte ∷ next ∷ rest) = byte == code "-"
 
 -- how an option that sets this begins
-abbrev pub front_of : Which → List ℕ
-front_of Formats = codes "-Lt"
-front_of Row = codes "-Lr"
-front_of Line = codes "-l"
+abbrev pub prefix_of : Which → List ℕ
+prefix_of Formats = codes "-Lt"
+prefix_of Row = codes "-Lr"
+prefix_of Line = codes "-l"
 
 -- the least number that it may set
 abbrev pub least_of : Which → ℕ
@@ -39,7 +39,7 @@ least_of Line = 1
 -- the option sets this: decimal digits stand after its prefix, and the number that they write is in range
 pub record Means (setting : Setting) (word : List ℕ) : Type 0 where
   pub digits : List ℕ
-  pub word_is : word ≡ front_of setting.which ++ digits
+  pub word_is : word ≡ prefix_of setting.which ++ digits
   pub numeral : IsNumeral 10 digits
   pub number : setting.limit ≡ digits_value 10 digits
   pub least : least_of setting.which ≤ setting.limit
@@ -47,7 +47,7 @@ pub record Means (setting : Setting) (word : List ℕ) : Type 0 where
 
 -- the word begins with this
 abbrev pub BeginsWith : List ℕ → List ℕ → Type 0
-BeginsWith front word = (rest : List ℕ) × (word ≡ front ++ rest)
+BeginsWith prefix word = (rest : List ℕ) × (word ≡ prefix ++ rest)
 
 -- the option is none, or it is one and sets nothing
 abbrev pub IsBad : Wrong → List ℕ → Type 0

@@ -2,7 +2,7 @@
 ghost use Rattle.std.specs.Prelude.{◌≡◌, ◌≢◌, ℕ, ◌<◌, ◌≤◌, List, ◌++◌, IfErr, IfNone, IfOk, IfSome, Result, length};
 ghost use Rattle.std.specs.Option.{SomeIff};
 ghost use Rattle.std.specs.Str.Parse.{IsNumeral, digits_value};
-ghost use Rattle.tbl_command.specs.Arguments.{IsAnswer, Reads, at, front_of, is_option, least_of, texts, usual_job, with_setting, with_table, without_fit};
+ghost use Rattle.tbl_command.specs.Arguments.{IsAnswer, Reads, at, prefix_of, is_option, least_of, texts, usual_job, with_setting, with_table, without_fit};
 
 use filters_own::{Named, table_at};
 
@@ -99,8 +99,8 @@ fn is_option(word: &str) -> bool
 
 /// What an option sets, and what stands after its prefix: `-LtN`, `-LrN` or `-lN`.
 fn split_option(word: &str) -> Option<(Which, &str)>
-    ensures found { IfSome result (λ parts. word.now ≡ front_of parts.0 ++ parts.1.now) }
-    ensures none { IfNone result ((which : Which) (rest : List ℕ) → word.now ≢ front_of which ++ rest) }
+    ensures found { IfSome result (λ parts. word.now ≡ prefix_of parts.0 ++ parts.1.now) }
+    ensures none { IfNone result ((which : Which) (rest : List ℕ) → word.now ≢ prefix_of which ++ rest) }
 {
     if let Some(digits) = word.strip_prefix("-Lt") {
         Some((Which::Formats, digits))

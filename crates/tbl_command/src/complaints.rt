@@ -174,7 +174,7 @@ fn put_report<E: Sink>(
 }
 
 /// Writes all that is told of the tables of the text of this name, up to the first fault of a write.
-fn put_told<E: Sink>(
+fn put_reported<E: Sink>(
     program: &str,
     name: &str,
     report: Report,
@@ -206,7 +206,7 @@ pub fn tell_complaints<E: Sink>(
     ensures { Tells (E.held errors.old) (E.held errors.new) (E.failures errors.old) (E.failures errors.new)
         (specs.lines_of program.now name.now complaints.now report.missed report.uneven) }
 {
-    let _ = put_told(program, name, report, complaints, errors);
+    let _ = put_reported(program, name, report, complaints, errors);
     report.missed
         || complaints
             .iter()

@@ -1,7 +1,7 @@
 // The tables of a page are looked at, and not set.
 ghost use Rattle.std.specs.Prelude.{◌≡◌, IfOk, IfSome, Some};
 ghost use Rattle.nr_units.specs.Source.{Supply};
-ghost use Rattle.tbl_command.specs.Looking.{AreToldOf};
+ghost use Rattle.tbl_command.specs.Looking.{AreReportedOf};
 
 use super::arguments::Job;
 use super::rooms::Rooms;
@@ -29,7 +29,7 @@ pub fn look_at<S: Source, W: Sink + Drop>(
     alloc: Global,
 ) -> Result<Option<Tables>, AllocError>
     ensures { IfOk result (λ made. IfSome made (λ tables. (q : Supply) → S.supply text.old ≡ Some q →
-        AreToldOf job q.bytes tables)) }
+        AreReportedOf job q.bytes tables)) }
 {
     let mut rooms = Rooms::new(job, None, alloc)?;
     let mut complaints = SliceVec::over(&mut rooms.complaints);

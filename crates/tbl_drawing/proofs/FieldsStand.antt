@@ -22,7 +22,7 @@ use Rattle.tbl_drawing.specs.Steps.{lines_taken, steps_taken, walked}
 use Rattle.tbl_drawing.specs.Tables.{columns_opened, columns_renewed, columns_stand, measured, part_measured, placed, ready, table_measured}
 use Rattle.tbl_drawing.proofs.Below.{below_or, by_cases}
 use Rattle.tbl_drawing.proofs.Kept.{Keeps, blocks_read_keeps, keeps_then, part_keeps, table_keeps}
-use Rattle.tbl_drawing.proofs.Once.{IsPlaced, Met, steps_met}
+use Rattle.tbl_drawing.proofs.Once.{IsPlaced, Reached, steps_reached}
 use Rattle.tbl_drawing.proofs.OnceStands.{Fits, HasLines, placed_once}
 use Rattle.tbl_drawing.proofs.PlacedRows.{Begins, InRange, RowsPlaced, all_placed, within}
 use Rattle.tbl_drawing.proofs.RowHeights.{Raised, all_raised, heights_are, heights_count, heights_fit, heights_lines}
@@ -198,8 +198,8 @@ by_blocks x ends p room d =
     let g : Grid = t.grid in
     let listed : length g.table.items.items ≡ length x.grid.table.items.items = ap (λ (h : Grid). length h.table.items.items) d.grid in
     let count : length g.table.rows.items ≡ length x.grid.table.rows.items = ap (λ (h : Grid). length h.table.rows.items) d.grid in
-    let m : Met t (length g.table.items.items) (suc (suc (suc (4 * length g.table.items.items + 1)))) (walked ends t) =
-    steps_met t ends (subst IsPlaced (sym d.grid) p) (omega (arith, d.talls, count)) (omega (arith, room, listed, d.steps)) in
+    let m : Reached t (length g.table.items.items) (suc (suc (suc (4 * length g.table.items.items + 1)))) (walked ends t) =
+    steps_reached t ends (subst IsPlaced (sym d.grid) p) (omega (arith, d.talls, count)) (omega (arith, room, listed, d.steps)) in
     let h : Raised v u = all_raised v in
     record {
       grid = h.grid ∙ m.grid ∙ d.grid;

@@ -16,7 +16,7 @@ use Rattle.tbl_columns.specs.Held.{block_of, cell_of, column, columns, no_cell, 
 use Rattle.tbl_columns.specs.Measured.{by_blocks, by_fields, line_shared, measured_columns, measured_part, measured_table, part_filled, part_widened}
 use Rattle.tbl_columns.specs.Narrow.{block_counted, blocks_counted, cells_taken, is_too_wide, least, line_kept, lines_kept, long_fields_read, long_read, made_narrow, may_break, narrowed, narrower, taken_from, widest, with_long_fields}
 use Rattle.tbl_columns.specs.Shares.{Gaps, Sharing, all_parts, edges_shared, first_sharing, gap_parts, gap_shared, gaps_shared, gaps_so_far, has_no_rest, has_wide, line_room, only_widened, share_in, share_of_gaps, shared_at, shared_column, shared_columns, shared_gap, shared_gaps, some_gaps_shared}
-use Rattle.tbl_columns.specs.Texts.{all_filled_within, as_text, block_read_in, blocks_read, counted_cell, fill_width, filled_at, filled_blocks, filled_cell, filled_in, filled_some, filled_text, filled_within, is_due, lines_from, parts, read_at, read_block, read_words, text_added, text_lines, widest_line, with_blocks, within_in, words_read_in}
+use Rattle.tbl_columns.specs.Texts.{all_filled_within, as_text, block_read_in, blocks_read, counted_cell, fill_width, filled_at, filled_blocks, filled_cell, filled_in, filled_some, filled_text, filled_within, is_pending, lines_from, parts, read_at, read_block, read_words, text_added, text_lines, widest_line, with_blocks, within_in, words_read_in}
 use Rattle.tbl_columns.proofs.Turns.{set_same, turn_has}
 use Rattle.tbl_drawing.proofs.Below.{by_cases}
 use Rattle.tbl_drawing.proofs.TextsStand.{TextsStand, block_stands, filled_stands, words_stand}
@@ -208,7 +208,7 @@ counted_keeps n t =
 filled_at_keeps : (over wide : Bool) (n : ℕ) (t : Grid) → Keeps t (filled_at over wide n t)
 filled_at_keeps over wide n t =
     let u : Grid = filled_cell n (fill_width t (cell_of t n)) t in
-    by_cases (Keeps t) (is_due t (cell_of t n) over wide) (counted_cell n u) t
+    by_cases (Keeps t) (is_pending t (cell_of t n) over wide) (counted_cell n u) t
     (λ e. keeps_then t u (counted_cell n u) (filled_keeps n (fill_width t (cell_of t n)) t) (counted_keeps n u)) (λ e. keeps_itself t)
 
 filled_some_keeps : (over wide : Bool) (t : Grid) → Keeps t (filled_some over wide t)

@@ -122,7 +122,7 @@ Drawn w r = ((tall w.layout r).step < length (ss_of w)) × ((at (ss_of w) (tall 
 abbrev pub Among : Layout → ℕ → ℕ → Type 0
 Among t k r = (m : ℕ) × (m < k) × (item t.grid.table m ≡ items.Row r)
 
-pub record Met (t : Layout) (k lines : ℕ) (w : Walking) : Type 0 where
+pub record Reached (t : Layout) (k lines : ℕ) (w : Walking) : Type 0 where
   pub few : length (ss_of w) ≤ lines
   pub room : w.layout.steps.capacity ≡ t.steps.capacity
   pub begins : w.layout.begins ≡ t.begins
@@ -131,10 +131,10 @@ pub record Met (t : Layout) (k lines : ℕ) (w : Walking) : Type 0 where
   pub tall_as : (r : ℕ) → lines_of (tall w.layout r) ≡ lines_of (tall t r)
   pub lie : Apart t (ss_of w) w.walk.line
   pub rowed : (i r : ℕ) → i < length (ss_of w) → (at (ss_of w) i).kind ≡ steps.Row r → (tall w.layout r).step ≡ i
-  pub met : (i r : ℕ) → i < length (ss_of w) → (at (ss_of w) i).kind ≡ steps.Row r → Among t k r
+  pub reached : (i r : ℕ) → i < length (ss_of w) → (at (ss_of w) i).kind ≡ steps.Row r → Among t k r
   pub drawn : (m r : ℕ) → m < k → item t.grid.table m ≡ items.Row r → (placed t.grid r).own ≡ true → Drawn w r
 
-more_lines : (t : Layout) (k lines n : ℕ) (w : Walking) → lines ≤ n → Met t k lines w → Met t k n w
+more_lines : (t : Layout) (k lines n : ℕ) (w : Walking) → lines ≤ n → Reached t k lines w → Reached t k n w
 more_lines t k lines n w h m = record {
   few = omega (arith, h, m.few);
   room = m.room;
@@ -144,13 +144,13 @@ more_lines t k lines n w h m = record {
   tall_as = m.tall_as;
   lie = m.lie;
   rowed = m.rowed;
-  met = m.met;
+  reached = m.reached;
   drawn = m.drawn;
 }
 
 -- the walk alone is another, on the same line
-walked_as : (t : Layout) (k lines : ℕ) (w : Walking) (walk : Walk) → walk.line ≡ w.walk.line → Met t k lines w
-    → Met t k lines (record w { walk = walk })
+walked_as : (t : Layout) (k lines : ℕ) (w : Walking) (walk : Walk) → walk.line ≡ w.walk.line → Reached t k lines w
+    → Reached t k lines (record w { walk = walk })
 walked_as t k lines w walk e m = record {
   few = m.few;
   room = m.room;
@@ -160,14 +160,14 @@ walked_as t k lines w walk e m = record {
   tall_as = m.tall_as;
   lie = subst (λ (line : ℕ). Apart t (ss_of w) line) (sym e) m.lie;
   rowed = m.rowed;
-  met = m.met;
+  reached = m.reached;
   drawn = m.drawn;
 }
 
 -- a step that is no row
-other_met : (t : Layout) (k lines : ℕ) (kind : StepKind) (w : Walking) → ((r : ℕ) → kind ≡ steps.Row r → ⊥) → lines < t.steps.capacity
-    → Met t k lines w → Met t k (suc lines) (stepped kind (height t kind) w)
-other_met t k lines kind w never h m =
+other_reached : (t : Layout) (k lines : ℕ) (kind : StepKind) (w : Walking) → ((r : ℕ) → kind ≡ steps.Row r → ⊥) → lines < t.steps.capacity
+    → Reached t k lines w → Reached t k (suc lines) (stepped kind (height t kind) w)
+other_reached t k lines kind w never h m =
     let s : Step = step_at kind w.walk.line in
     let old : List Step = ss_of w in
     let new : List Step = (added s w.layout.steps).items in
@@ -187,9 +187,9 @@ other_met t k lines kind w never h m =
             | inl before ↦ m.rowed i r before (ap (λ (x : Step). x.kind) (sym (grown_before old new s is i before)) ∙ e)
             | inr last ↦ absurd (never r (ap (λ (x : Step). x.kind) (sym (grown_last old new s is i last)) ∙ e))
           ];
-      met = λ i r less e.
+      reached = λ i r less e.
           elim (two i (length old) (omega (arith, less, len))) [
-            | inl before ↦ m.met i r before (ap (λ (x : Step). x.kind) (sym (grown_before old new s is i before)) ∙ e)
+            | inl before ↦ m.reached i r before (ap (λ (x : Step). x.kind) (sym (grown_before old new s is i before)) ∙ e)
             | inr last ↦ absurd (never r (ap (λ (x : Step). x.kind) (sym (grown_last old new s is i last)) ∙ e))
           ];
       drawn = λ n r less e o.
@@ -199,12 +199,12 @@ other_met t k lines kind w never h m =
     }
 
 -- one in which no field stands
-no_field_met : (t : Layout) (k lines : ℕ) (kind : StepKind) (w : Walking) → ((r : ℕ) → kind ≡ steps.Row r → ⊥) → height t kind ≡ 0
-    → lines < t.steps.capacity → Met t k lines w → Met t k (suc lines) (other kind w)
-no_field_met t k lines kind w never none h m =
+no_field_reached : (t : Layout) (k lines : ℕ) (kind : StepKind) (w : Walking) → ((r : ℕ) → kind ≡ steps.Row r → ⊥) → height t kind ≡ 0
+    → lines < t.steps.capacity → Reached t k lines w → Reached t k (suc lines) (other kind w)
+no_field_reached t k lines kind w never none h m =
     let v : Walking = stepped kind 0 w in
     walked_as t k (suc lines) v (one_more v).walk refl
-    (subst (λ (n : ℕ). Met t k (suc lines) (stepped kind n w)) none (other_met t k lines kind w never h m))
+    (subst (λ (n : ℕ). Reached t k (suc lines) (stepped kind n w)) none (other_reached t k lines kind w never h m))
 
 row_same : (n r : ℕ) → steps.Row n ≡ steps.Row r → n ≡ r
 row_same n r e = ap number e
@@ -224,10 +224,10 @@ not_less : {a b : ℕ} → a < b → a ≡ b → ⊥
 not_less h e = omega (arith, h, e)
 
 -- a row has the next step
-row_met : (t : Layout) (k lines n : ℕ) (w : Walking) → IsPlaced t.grid → length t.grid.table.rows.items ≤ length t.talls.items
+row_reached : (t : Layout) (k lines n : ℕ) (w : Walking) → IsPlaced t.grid → length t.grid.table.rows.items ≤ length t.talls.items
     → k < length t.grid.table.items.items
-    → item t.grid.table k ≡ items.Row n → lines < t.steps.capacity → Met t k lines w → Met t (suc k) (suc lines) (row_stepped n (on_step n w))
-row_met t k lines n w p many inside e h m =
+    → item t.grid.table k ≡ items.Row n → lines < t.steps.capacity → Reached t k lines w → Reached t (suc k) (suc lines) (row_stepped n (on_step n w))
+row_reached t k lines n w p many inside e h m =
     let s : Step = step_at (steps.Row n) w.walk.line in
     let old : List Step = ss_of w in
     let v : Walking = on_step n w in
@@ -259,15 +259,15 @@ row_met t k lines n w p many inside e h m =
           elim (two i (length old) (omega (arith, less, len))) [
             | inl before ↦
                 (let was : (at old i).kind ≡ steps.Row r = ap (λ (x : Step). x.kind) (sym (grown_before old new s is i before)) ∙ k' in
-                ap (λ (x : Tall). x.step) (others r (fresh r (m.met i r before was))) ∙ m.rowed i r before was)
+                ap (λ (x : Tall). x.step) (others r (fresh r (m.reached i r before was))) ∙ m.rowed i r before was)
             | inr last ↦
                 (let same : n ≡ r = row_same n r (ap (λ (x : Step). x.kind) (sym (grown_last old new s is i last)) ∙ k') in
                 ap (λ (x : ℕ). (tall v.layout x).step) (sym same) ∙ mine ∙ sym last)
           ];
-      met = λ i r less k'.
+      reached = λ i r less k'.
           elim (two i (length old) (omega (arith, less, len))) [
             | inl before ↦
-                (let a : Among t k r = m.met i r before (ap (λ (x : Step). x.kind) (sym (grown_before old new s is i before)) ∙ k') in
+                (let a : Among t k r = m.reached i r before (ap (λ (x : Step). x.kind) (sym (grown_before old new s is i before)) ∙ k') in
                 (a.0, omega (arith, a.1), a.2))
             | inr last ↦
                 (let same : n ≡ r = row_same n r (ap (λ (x : Step). x.kind) (sym (grown_last old new s is i last)) ∙ k') in
@@ -290,9 +290,9 @@ row_met t k lines n w p many inside e h m =
     }
 
 -- an item that is no row of its own
-next_met : (t : Layout) (k lines : ℕ) (w : Walking) → ((r : ℕ) → item t.grid.table k ≡ items.Row r → (placed t.grid r).own ≡ true → ⊥)
-    → Met t k lines w → Met t (suc k) lines w
-next_met t k lines w never m = record {
+next_reached : (t : Layout) (k lines : ℕ) (w : Walking) → ((r : ℕ) → item t.grid.table k ≡ items.Row r → (placed t.grid r).own ≡ true → ⊥)
+    → Reached t k lines w → Reached t (suc k) lines w
+next_reached t k lines w never m = record {
   few = m.few;
   room = m.room;
   begins = m.begins;
@@ -301,7 +301,7 @@ next_met t k lines w never m = record {
   tall_as = m.tall_as;
   lie = m.lie;
   rowed = m.rowed;
-  met = λ i r less e. (let a : Among t k r = m.met i r less e in (a.0, omega (arith, a.1), a.2));
+  reached = λ i r less e. (let a : Among t k r = m.reached i r less e in (a.0, omega (arith, a.1), a.2));
   drawn = λ i r less e o.
       elim (two i k (omega (arith, less))) [
         | inl before ↦ m.drawn i r before e o
@@ -309,107 +309,107 @@ next_met t k lines w never m = record {
       ];
 }
 
-if_met : (t : Layout) (k lines : ℕ) (b : Bool) (x y : Walking) → Met t k lines x → Met t k lines y → Met t k lines (if b then x else y)
-if_met t k lines true x y m n = m
-if_met t k lines false x y m n = n
+if_reached : (t : Layout) (k lines : ℕ) (b : Bool) (x y : Walking) → Reached t k lines x → Reached t k lines y → Reached t k lines (if b then x else y)
+if_reached t k lines true x y m n = m
+if_reached t k lines false x y m n = n
 
-released_met : (t : Layout) (k lines : ℕ) (below : Option ℕ) (w : Walking) → lines < t.steps.capacity → Met t k lines w
-    → Met t k (suc lines) (released below w)
-released_met t k lines below w h m =
-    if_met t k (suc lines) w.walk.ruled (stepped (steps.Rule w.walk.last below) 1 w) w
-    (other_met t k lines (steps.Rule w.walk.last below) w (λ r e. cc) h m) (more_lines t k lines (suc lines) w (omega arith) m)
+released_reached : (t : Layout) (k lines : ℕ) (below : Option ℕ) (w : Walking) → lines < t.steps.capacity → Reached t k lines w
+    → Reached t k (suc lines) (released below w)
+released_reached t k lines below w h m =
+    if_reached t k (suc lines) w.walk.ruled (stepped (steps.Rule w.walk.last below) 1 w) w
+    (other_reached t k lines (steps.Rule w.walk.last below) w (λ r e. cc) h m) (more_lines t k lines (suc lines) w (omega arith) m)
 
-asked_met : (t : Layout) (k lines : ℕ) (space last : Option ℕ) (s : Span) (w : Walking) → suc lines < t.steps.capacity → Met t k lines w
-    → Met t k (suc (suc lines)) (asked space last s w)
-asked_met t k lines None last s w h m =
+asked_reached : (t : Layout) (k lines : ℕ) (space last : Option ℕ) (s : Span) (w : Walking) → suc lines < t.steps.capacity → Reached t k lines w
+    → Reached t k (suc (suc lines)) (asked space last s w)
+asked_reached t k lines None last s w h m =
     more_lines t k (suc lines) (suc (suc lines)) (other (steps.Request s) w) (omega arith)
-    (no_field_met t k lines (steps.Request s) w (λ r e. cc) refl (omega (arith, h)) m)
-asked_met t k lines (Some n) None s w h m =
+    (no_field_reached t k lines (steps.Request s) w (λ r e. cc) refl (omega (arith, h)) m)
+asked_reached t k lines (Some n) None s w h m =
     more_lines t k (suc lines) (suc (suc lines)) (other (steps.Request s) w) (omega arith)
-    (no_field_met t k lines (steps.Request s) w (λ r e. cc) refl (omega (arith, h)) m)
-asked_met t k lines (Some n) (Some r) s w h m =
+    (no_field_reached t k lines (steps.Request s) w (λ r e. cc) refl (omega (arith, h)) m)
+asked_reached t k lines (Some n) (Some r) s w h m =
     let v : Walking = released (row_beside w.layout w.walk) w in
-    other_met t k (suc lines) (steps.Bars r n) (ruled false v) (λ x e. cc) h
-    (walked_as t k (suc lines) v (with_rule false v.walk) refl (released_met t k lines (row_beside w.layout w.walk) w (omega (arith, h)) m))
+    other_reached t k (suc lines) (steps.Bars r n) (ruled false v) (λ x e. cc) h
+    (walked_as t k (suc lines) v (with_rule false v.walk) refl (released_reached t k lines (row_beside w.layout w.walk) w (omega (arith, h)) m))
 
-request_met : (t : Layout) (k lines : ℕ) (s : Span) (w : Walking) → suc lines < t.steps.capacity → Met t k lines w
-    → Met t k (suc (suc lines)) (walked_request s w)
-request_met t k lines s w h m =
+request_reached : (t : Layout) (k lines : ℕ) (s : Span) (w : Walking) → suc lines < t.steps.capacity → Reached t k lines w
+    → Reached t k (suc (suc lines)) (walked_request s w)
+request_reached t k lines s w h m =
     let v : Walking = asked_in (space_in w.layout w.walk s) s w in
     walked_as t k (suc (suc lines)) v (with_open (open_after (text_of v.layout.grid.table s) v.walk.opened) v.walk) refl
-    (asked_met t k lines (space_in w.layout w.walk s) (row_asked w.layout (space_in w.layout w.walk s) w.walk) s w h m)
+    (asked_reached t k lines (space_in w.layout w.walk s) (row_asked w.layout (space_in w.layout w.walk s) w.walk) s w h m)
 
-own_met : (t : Layout) (k lines n : ℕ) (w : Walking) → IsPlaced t.grid → length t.grid.table.rows.items ≤ length t.talls.items
+own_reached : (t : Layout) (k lines n : ℕ) (w : Walking) → IsPlaced t.grid → length t.grid.table.rows.items ≤ length t.talls.items
     → k < length t.grid.table.items.items → item t.grid.table k ≡ items.Row n
-    → lines + 4 ≤ t.steps.capacity → Met t k lines w → Met t (suc k) (suc (suc (suc lines))) (walked_own_row n w)
-own_met t k lines n w p many inside e h m =
+    → lines + 4 ≤ t.steps.capacity → Reached t k lines w → Reached t (suc k) (suc (suc (suc lines))) (walked_own_row n w)
+own_reached t k lines n w p many inside e h m =
     let before : Walking = stepped (steps.Before n) 0 w in
     let under : Walking = released (Some n) before in
-    let m1 : Met t k (suc lines) before = other_met t k lines (steps.Before n) w (λ r e. cc) (omega (arith, h)) m in
-    let m2 : Met t k (suc (suc lines)) under = released_met t k (suc lines) (Some n) before (omega (arith, h)) m1 in
-    row_met t k (suc (suc lines)) n under p many inside e (omega (arith, h)) m2
+    let m1 : Reached t k (suc lines) before = other_reached t k lines (steps.Before n) w (λ r e. cc) (omega (arith, h)) m in
+    let m2 : Reached t k (suc (suc lines)) under = released_reached t k (suc lines) (Some n) before (omega (arith, h)) m1 in
+    row_reached t k (suc (suc lines)) n under p many inside e (omega (arith, h)) m2
 
-line_met : (t : Layout) (k lines n : ℕ) (w : Walking) → IsPlaced t.grid → length t.grid.table.rows.items ≤ length t.talls.items
+line_reached : (t : Layout) (k lines n : ℕ) (w : Walking) → IsPlaced t.grid → length t.grid.table.rows.items ≤ length t.talls.items
     → k < length t.grid.table.items.items → item t.grid.table k ≡ items.Row n
-    → lines + 4 ≤ t.steps.capacity → Met t k lines w → (b : Bool) → (placed t.grid n).own ≡ b
-    → Met t (suc k) (suc (suc (suc lines))) (if b then walked_own_row n w else stepped (steps.Before n) 0 w)
-line_met t k lines n w p many inside e h m true is = own_met t k lines n w p many inside e h m
-line_met t k lines n w p many inside e h m false is =
+    → lines + 4 ≤ t.steps.capacity → Reached t k lines w → (b : Bool) → (placed t.grid n).own ≡ b
+    → Reached t (suc k) (suc (suc (suc lines))) (if b then walked_own_row n w else stepped (steps.Before n) 0 w)
+line_reached t k lines n w p many inside e h m true is = own_reached t k lines n w p many inside e h m
+line_reached t k lines n w p many inside e h m false is =
     let v : Walking = stepped (steps.Before n) 0 w in
-    next_met t k (suc (suc (suc lines))) v (λ q f x. not_own (sym is ∙ ap (λ (i : ℕ). (placed t.grid i).own) (item_same n q (sym e ∙ f)) ∙ x))
+    next_reached t k (suc (suc (suc lines))) v (λ q f x. not_own (sym is ∙ ap (λ (i : ℕ). (placed t.grid i).own) (item_same n q (sym e ∙ f)) ∙ x))
     (more_lines t k (suc lines) (suc (suc (suc lines))) v (omega arith)
-    (other_met t k lines (steps.Before n) w (λ r e. cc) (omega (arith, h)) m))
+    (other_reached t k lines (steps.Before n) w (λ r e. cc) (omega (arith, h)) m))
   where
     not_own : false ≡ true → ⊥
     not_own e = cc
 
-beyond_met : (t : Layout) (k lines n : ℕ) (p : Placed) (w : Walking) → lines < t.steps.capacity → Met t k lines w → Met t k (suc lines) (beyond_stepped n p w)
-beyond_met t k lines n p w h m =
-    if_met t k (suc lines) (has_beyond w.layout n p) (other (steps.Beyond n) w) w
-    (no_field_met t k lines (steps.Beyond n) w (λ r e. cc) refl h m) (more_lines t k lines (suc lines) w (omega arith) m)
+beyond_reached : (t : Layout) (k lines n : ℕ) (p : Placed) (w : Walking) → lines < t.steps.capacity → Reached t k lines w → Reached t k (suc lines) (beyond_stepped n p w)
+beyond_reached t k lines n p w h m =
+    if_reached t k (suc lines) (has_beyond w.layout n p) (other (steps.Beyond n) w) w
+    (no_field_reached t k lines (steps.Beyond n) w (λ r e. cc) refl h m) (more_lines t k lines (suc lines) w (omega arith) m)
 
-item_met : (t : Layout) (k lines : ℕ) (i : Item) (w : Walking) → IsPlaced t.grid → length t.grid.table.rows.items ≤ length t.talls.items
+item_reached : (t : Layout) (k lines : ℕ) (i : Item) (w : Walking) → IsPlaced t.grid → length t.grid.table.rows.items ≤ length t.talls.items
     → k < length t.grid.table.items.items → item t.grid.table k ≡ i → lines + 4 ≤ t.steps.capacity
-    → Met t k lines w → Met t (suc k) (suc (suc (suc (suc lines)))) (walked_item i w)
-item_met t k lines items.Rule w p many inside e h m =
+    → Reached t k lines w → Reached t (suc k) (suc (suc (suc (suc lines)))) (walked_item i w)
+item_reached t k lines items.Rule w p many inside e h m =
     let v : Walking = released (row_beside w.layout w.walk) w in
-    let m1 : Met t k (suc lines) v = released_met t k lines (row_beside w.layout w.walk) w (omega (arith, h)) m in
+    let m1 : Reached t k (suc lines) v = released_reached t k lines (row_beside w.layout w.walk) w (omega (arith, h)) m in
     walked_as t (suc k) (suc (suc (suc (suc lines)))) v (with_rule true v.walk) refl
-    (next_met t k (suc (suc (suc (suc lines)))) v (λ r f o. no_row_item (sym e ∙ f))
+    (next_reached t k (suc (suc (suc (suc lines)))) v (λ r f o. no_row_item (sym e ∙ f))
     (more_lines t k (suc lines) (suc (suc (suc (suc lines)))) v (omega arith) m1))
   where
     no_row_item : {r : ℕ} → items.Rule ≡ items.Row r → ⊥
     no_row_item f = cc
-item_met t k lines (items.Request s) w p many inside e h m =
+item_reached t k lines (items.Request s) w p many inside e h m =
     let v : Walking = walked_request s w in
-    next_met t k (suc (suc (suc (suc lines)))) v (λ r f o. no_row_item (sym e ∙ f))
-    (more_lines t k (suc (suc lines)) (suc (suc (suc (suc lines)))) v (omega arith) (request_met t k lines s w (omega (arith, h)) m))
+    next_reached t k (suc (suc (suc (suc lines)))) v (λ r f o. no_row_item (sym e ∙ f))
+    (more_lines t k (suc (suc lines)) (suc (suc (suc (suc lines)))) v (omega arith) (request_reached t k lines s w (omega (arith, h)) m))
   where
     no_row_item : {r : ℕ} → items.Request s ≡ items.Row r → ⊥
     no_row_item f = cc
-item_met t k lines (items.Row n) w p many inside e h m =
+item_reached t k lines (items.Row n) w p many inside e h m =
     let r : Placed = placed w.layout.grid n in
     let v : Walking = walked_line r n w in
     let b : Walking = beyond_stepped n r v in
     let own : (placed t.grid n).own ≡ r.own = ap (λ (g : Grid). (placed g n).own) (sym m.grid) in
     walked_as t (suc k) (suc (suc (suc (suc lines)))) b (with_next (sum n 1) b.walk) refl
-    (beyond_met t (suc k) (suc (suc (suc lines))) n r v (omega (arith, h)) (line_met t k lines n w p many inside e h m r.own own))
+    (beyond_reached t (suc k) (suc (suc (suc lines))) n r v (omega (arith, h)) (line_reached t k lines n w p many inside e h m r.own own))
 
 -- ---- all of them
 
-all_met : (t : Layout) (k : ℕ) (w : Walking) → IsPlaced t.grid → length t.grid.table.rows.items ≤ length t.talls.items
-    → k ≤ length t.grid.table.items.items → 4 * length t.grid.table.items.items + 4 ≤ t.steps.capacity → Met t 0 1 w
-    → Met t k (4 * k + 1) (in_turn k walked_at w)
-all_met t zero w p many h room m = more_lines t 0 1 (4 * zero + 1) w (omega arith) m
-all_met t (suc k) w p many h room m =
+all_reached : (t : Layout) (k : ℕ) (w : Walking) → IsPlaced t.grid → length t.grid.table.rows.items ≤ length t.talls.items
+    → k ≤ length t.grid.table.items.items → 4 * length t.grid.table.items.items + 4 ≤ t.steps.capacity → Reached t 0 1 w
+    → Reached t k (4 * k + 1) (in_turn k walked_at w)
+all_reached t zero w p many h room m = more_lines t 0 1 (4 * zero + 1) w (omega arith) m
+all_reached t (suc k) w p many h room m =
     let v : Walking = in_turn k walked_at w in
-    let before : Met t k (4 * k + 1) v = all_met t k w p many (omega (arith, h)) room m in
+    let before : Reached t k (4 * k + 1) v = all_reached t k w p many (omega (arith, h)) room m in
     let is : item t.grid.table k ≡ item v.layout.grid.table k = ap (λ (g : Grid). item g.table k) (sym before.grid) in
     more_lines t (suc k) (suc (suc (suc (suc (4 * k + 1))))) (4 * suc k + 1) (walked_item (item v.layout.grid.table k) v) (omega arith)
-    (item_met t k (4 * k + 1) (item v.layout.grid.table k) v p many (omega (arith, h)) is (omega (arith, h, room)) before)
+    (item_reached t k (4 * k + 1) (item v.layout.grid.table k) v p many (omega (arith, h)) is (omega (arith, h, room)) before)
 
-first_met : (t : Layout) → Met t 0 0 (walking_on (without_steps t))
-first_met t = record {
+first_reached : (t : Layout) → Reached t 0 0 (walking_on (without_steps t))
+first_reached t = record {
   few = omega arith;
   room = refl;
   begins = refl;
@@ -418,45 +418,45 @@ first_met t = record {
   tall_as = λ r. refl;
   lie = record { apart = λ i j less inside. omega (arith, inside); below = λ i inside. omega (arith, inside) };
   rowed = λ i r inside e. omega (arith, inside);
-  met = λ i r inside e. absurd (none i inside);
+  reached = λ i r inside e. absurd (none i inside);
   drawn = λ i r inside e o. absurd (none i inside);
 }
   where
     none : (i : ℕ) → i < 0 → ⊥
     none i h = omega (arith, h)
 
-begun_met : (t : Layout) → 4 ≤ t.steps.capacity → Met t 0 1 (walk_begun (without_steps t))
-begun_met t room =
+begun_reached : (t : Layout) → 4 ≤ t.steps.capacity → Reached t 0 1 (walk_begun (without_steps t))
+begun_reached t room =
     let u : Layout = without_steps t in
-    if_met t 0 1 (is_double t.grid.table.looks.frame && not t.begun) (stepped (steps.Edge true) 1 (walking_on u)) (walking_on u)
-    (other_met t 0 0 (steps.Edge true) (walking_on u) (λ r e. cc) (omega (arith, room)) (first_met t))
-    (more_lines t 0 0 1 (walking_on u) (omega arith) (first_met t))
+    if_reached t 0 1 (is_double t.grid.table.looks.frame && not t.begun) (stepped (steps.Edge true) 1 (walking_on u)) (walking_on u)
+    (other_reached t 0 0 (steps.Edge true) (walking_on u) (λ r e. cc) (omega (arith, room)) (first_reached t))
+    (more_lines t 0 0 1 (walking_on u) (omega arith) (first_reached t))
 
-ended_met : (t : Layout) (k lines : ℕ) (ends : Bool) (w : Walking) → lines + 3 ≤ t.steps.capacity → Met t k lines w
-    → Met t k (suc (suc (suc lines))) (walk_ended ends w)
-ended_met t k lines ends w h m =
+ended_reached : (t : Layout) (k lines : ℕ) (ends : Bool) (w : Walking) → lines + 3 ≤ t.steps.capacity → Reached t k lines w
+    → Reached t k (suc (suc (suc lines))) (walk_ended ends w)
+ended_reached t k lines ends w h m =
     let rule : Walking = closed_rule ends w in
     let box : Walking = closed_box ends rule in
-    let m1 : Met t k (suc lines) rule =
-    if_met t k (suc lines) (closes_rule ends w.layout) (released w.walk.last w) w
-    (released_met t k lines w.walk.last w (omega (arith, h)) m) (more_lines t k lines (suc lines) w (omega arith) m) in
-    let m2 : Met t k (suc (suc lines)) box =
-    if_met t k (suc (suc lines)) (ends && (rule.walk.ruled || is_boxed rule.layout.grid.table)) (stepped (steps.Rule rule.walk.last None) 1 rule) rule
-    (other_met t k (suc lines) (steps.Rule rule.walk.last None) rule (λ r e. cc) (omega (arith, h)) m1)
+    let m1 : Reached t k (suc lines) rule =
+    if_reached t k (suc lines) (closes_rule ends w.layout) (released w.walk.last w) w
+    (released_reached t k lines w.walk.last w (omega (arith, h)) m) (more_lines t k lines (suc lines) w (omega arith) m) in
+    let m2 : Reached t k (suc (suc lines)) box =
+    if_reached t k (suc (suc lines)) (ends && (rule.walk.ruled || is_boxed rule.layout.grid.table)) (stepped (steps.Rule rule.walk.last None) 1 rule) rule
+    (other_reached t k (suc lines) (steps.Rule rule.walk.last None) rule (λ r e. cc) (omega (arith, h)) m1)
     (more_lines t k (suc lines) (suc (suc lines)) rule (omega arith) m1) in
-    if_met t k (suc (suc (suc lines))) (ends && is_double box.layout.grid.table.looks.frame) (stepped (steps.Edge false) 1 box) box
-    (other_met t k (suc (suc lines)) (steps.Edge false) box (λ r e. cc) (omega (arith, h)) m2)
+    if_reached t k (suc (suc (suc lines))) (ends && is_double box.layout.grid.table.looks.frame) (stepped (steps.Edge false) 1 box) box
+    (other_reached t k (suc (suc lines)) (steps.Edge false) box (λ r e. cc) (omega (arith, h)) m2)
     (more_lines t k (suc (suc lines)) (suc (suc (suc lines))) box (omega arith) m2)
 
-pub steps_met : (t : Layout) (ends : Bool) → IsPlaced t.grid → length t.grid.table.rows.items ≤ length t.talls.items
+pub steps_reached : (t : Layout) (ends : Bool) → IsPlaced t.grid → length t.grid.table.rows.items ≤ length t.talls.items
     → 4 * length t.grid.table.items.items + 4 ≤ t.steps.capacity
-    → Met t (length t.grid.table.items.items) (suc (suc (suc (4 * length t.grid.table.items.items + 1)))) (walked ends t)
-steps_met t ends p many room =
+    → Reached t (length t.grid.table.items.items) (suc (suc (suc (4 * length t.grid.table.items.items + 1)))) (walked ends t)
+steps_reached t ends p many room =
     let w : Walking = walk_begun (without_steps t) in
     let n : ℕ = length t.grid.table.items.items in
-    let first : Met t 0 1 w = begun_met t (omega (arith, room)) in
+    let first : Reached t 0 1 w = begun_reached t (omega (arith, room)) in
     let count : n ≡ length w.layout.grid.table.items.items = ap (λ (g : Grid). length g.table.items.items) (sym first.grid) in
-    let all : Met t n (4 * n + 1) (in_turn n walked_at w) = all_met t n w p many (omega arith) room first in
-    let last : Met t n (suc (suc (suc (4 * n + 1)))) (walk_ended ends (in_turn n walked_at w)) =
-    ended_met t n (4 * n + 1) ends (in_turn n walked_at w) (omega (arith, room)) all in
-    subst (λ (k : ℕ). Met t n (suc (suc (suc (4 * n + 1)))) (walk_ended ends (in_turn k walked_at w))) count last
+    let all : Reached t n (4 * n + 1) (in_turn n walked_at w) = all_reached t n w p many (omega arith) room first in
+    let last : Reached t n (suc (suc (suc (4 * n + 1)))) (walk_ended ends (in_turn n walked_at w)) =
+    ended_reached t n (4 * n + 1) ends (in_turn n walked_at w) (omega (arith, room)) all in
+    subst (λ (k : ℕ). Reached t n (suc (suc (suc (4 * n + 1)))) (walk_ended ends (in_turn k walked_at w))) count last

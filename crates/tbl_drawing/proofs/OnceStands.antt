@@ -19,7 +19,7 @@ use Rattle.tbl_drawing.specs.Held.{begin_line, lines_of, step, tall}
 use Rattle.tbl_drawing.specs.Laws.{StandsBeside, StandsOnce, lines_after}
 use Rattle.tbl_drawing.specs.Steps.{Walking, goes_over_rule, line_among, line_beside, line_in, line_up_to, lines_in, row_line, stands_beside, steps_taken, walked}
 use Rattle.tbl_drawing.proofs.Below.{below_by, not_below_by, two}
-use Rattle.tbl_drawing.proofs.Once.{Apart, IsPlaced, Met, at, end_of, height, steps_met}
+use Rattle.tbl_drawing.proofs.Once.{Apart, IsPlaced, Reached, at, end_of, height, steps_reached}
 use Rattle.tbl_table.specs.Held.{none_of}
 use Rattle.tbl_table.specs.Lists.{added, in_turn}
 use Rattle.tbl_table.specs.Sums.{sum}
@@ -352,7 +352,7 @@ placed_once t ends n k p many room some few begins inside fits =
     let w : Walking = walked ends t in
     let v : Layout = w.layout in
     let g : Grid = t.grid in
-    let m : Met t (length g.table.items.items) (suc (suc (suc (4 * length g.table.items.items + 1)))) w = steps_met t ends p many room in
+    let m : Reached t (length g.table.items.items) (suc (suc (suc (4 * length g.table.items.items + 1)))) w = steps_reached t ends p many room in
     let is : cell_of v.grid n ≡ cell_of g n = ap (λ (h : Grid). cell_of h n) m.grid in
     let top : (cell_of v.grid n).top ≡ (cell_of g n).top = ap (λ (c : Cell). c.top) is in
     let a = p.among n inside in

@@ -11,7 +11,7 @@ use Rattle.tbl_blocks.specs.Parts.{blanks, gap_more, is_gap, letter_of, no_part}
 use Rattle.tbl_columns.specs.declared.grid.Block.{Block}
 use Rattle.tbl_columns.specs.declared.grid.Cell.{Cell}
 use Rattle.tbl_columns.specs.declared.grid.Column.{Column}
-use Rattle.tbl_columns.specs.Columns.{front_cells, is_given, is_number, spans}
+use Rattle.tbl_columns.specs.Columns.{prefix_cells, is_given, is_number, spans}
 use Rattle.tbl_columns.specs.Frames.{bar_place, bars_of, bars_seen, count, framing_at, is_covered, is_ruled, meeting, table_end, was_ruled}
 use Rattle.tbl_columns.specs.Held.{block_of, cell, cell_number, cell_of, column, columns}
 use Rattle.tbl_columns.specs.Texts.{line_in_row}
@@ -32,12 +32,12 @@ use Rattle.tbl_table.specs.Sums.{sum}
 -- ---- where a field begins in columns of so many cells: at the left, at the right, in the middle; numbers stand below each other
 
 abbrev pub number_in : ℕ → ℕ → Column → ℕ
-number_in front room c = sum ((room - sum c.front c.back) / 2) c.front - front
+number_in prefix room c = sum ((room - sum c.prefix c.back) / 2) c.prefix - prefix
 
 abbrev pub number_begin : Layout → Cell → ℕ → Option ℕ
 number_begin l f room =
     if not (is_number f) || spans f || is_given f.block then None
-    else Some (number_in (front_cells l.grid f) room (column l.grid f.first))
+    else Some (number_in (prefix_cells l.grid f) room (column l.grid f.first))
 
 -- a text that is wider than its columns stands over their edges as far on one side as on the other
 abbrev pub in_middle : ℕ → ℕ → ℕ → ℕ

@@ -22,7 +22,7 @@ pub data Stroke : Type 0 where
   -- a byte repeated up to a place, by bytes or by the formatter
   Fill : ℕ → ℕ → Stroke
   Copies : ℕ → ℕ → ℕ → Stroke
-  FillTold : ℕ → ℕ → Stroke
+  FillByEscape : ℕ → ℕ → Stroke
   -- text begins with this byte, which is no control character then; its bytes, or a field's text; how many cells it took, if that is known
   Guard : ℕ → Stroke
   Begun : Stroke
@@ -94,7 +94,7 @@ after (Dashes b cells place) p = dashed cells place p
 after (Rule b place) p = gone (Some place) p
 after (Fill b place) p = filled b place p
 after (Copies b cells place) p = gone (Some place) p
-after (FillTold b place) p = gone None p
+after (FillByEscape b place) p = gone None p
 after (Guard b) p = p
 after Begun p = gone p.at p
 after (Bytes bytes) p = p
@@ -124,15 +124,15 @@ abbrev pub dash_bytes : Option ℕ → ℕ → ℕ → List ℕ
 dash_bytes None b place = rule_bytes b place
 dash_bytes (Some cells) b place = replicate cells b
 
-abbrev pub fill_told : ℕ → ℕ → List ℕ
-fill_told b place = codes "\\l'|" ++ decimal place ++ code "n" ∷ b ∷ code "'" ∷ []
+abbrev pub fill_by_escape : ℕ → ℕ → List ℕ
+fill_by_escape b place = codes "\\l'|" ++ decimal place ++ code "n" ∷ b ∷ code "'" ∷ []
 
 abbrev pub fill_to : Option ℕ → ℕ → ℕ → List ℕ
-fill_to None b place = fill_told b place
+fill_to None b place = fill_by_escape b place
 fill_to (Some cells) b place = replicate cells b
 
 abbrev pub fill_bytes : ℕ → ℕ → Pen → List ℕ
-fill_bytes b place p = if b == code "\\" then fill_told b place else fill_to (steps_to place p) b place
+fill_bytes b place p = if b == code "\\" then fill_by_escape b place else fill_to (steps_to place p) b place
 
 abbrev pub guard : Bool → ℕ → List ℕ
 guard begun b = if not begun && ((b == code ".") || (b == code "'")) then codes "\\&" else []
@@ -148,7 +148,7 @@ bytes (Dashes b cells place) p = replicate cells b
 bytes (Rule b place) p = rule_bytes b place
 bytes (Fill b place) p = fill_bytes b place p
 bytes (Copies b cells place) p = replicate cells b
-bytes (FillTold b place) p = fill_told b place
+bytes (FillByEscape b place) p = fill_by_escape b place
 bytes (Guard b) p = guard p.begun b
 bytes Begun p = []
 bytes (Bytes bs) p = bs

@@ -31,12 +31,12 @@ pub(crate) fn first_byte(text: &[u8]) -> u8
 }
 
 /// How far a number is moved in, of which so much stands before the place where it is aligned, in a column of so many cells.
-fn number_in(front: usize, room: usize, column: Column) -> usize
-    ensures { result ≡ specs.number_in front room column }
+fn number_in(prefix: usize, room: usize, column: Column) -> usize
+    ensures { result ≡ specs.number_in prefix room column }
 {
-    let numbers = column.front.saturating_add(column.back);
+    let numbers = column.prefix.saturating_add(column.back);
     let rest = room.saturating_sub(numbers) / 2;
-    rest.saturating_add(column.front).saturating_sub(front)
+    rest.saturating_add(column.prefix).saturating_sub(prefix)
 }
 
 /// Where a field begins that stands in the middle of so many cells.
@@ -95,8 +95,8 @@ impl Layout {
         if !cell.is_number() || cell.spans() || cell.block.is_some() {
             return None;
         }
-        let front = self.grid.front_cells(cell);
-        Some(number_in(front, room, self.grid.column(cell.first)))
+        let prefix = self.grid.prefix_cells(cell);
+        Some(number_in(prefix, room, self.grid.column(cell.first)))
     }
 
     /// Where a field of the middle begins, in columns of so many cells.

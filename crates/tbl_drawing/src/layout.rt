@@ -318,6 +318,6 @@ impl Layout {
         ensures err { OnErr result (out.new.failed ≡ true) }
     {
         self.put_parts(ends, out);
-        out.told()
+        out.returned()
     }
 }

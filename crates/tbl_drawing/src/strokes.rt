@@ -151,8 +151,8 @@ impl<'a, W: Sink> Out<'a, W> {
     }
 
     /// A byte that is repeated up to a place, by the formatter.
-    fn fill_told(&mut self, byte: u8, place: usize)
-        ensures { Draws self.old self.new (specs.FillTold byte place ∷ []) }
+    fn fill_by_escape(&mut self, byte: u8, place: usize)
+        ensures { Draws self.old self.new (specs.FillByEscape byte place ∷ []) }
     {
         self.add(b"\\l'|");
         self.number(place);
@@ -175,12 +175,12 @@ impl<'a, W: Sink> Out<'a, W> {
         ensures { Draws self.old self.new (specs.Fill byte place ∷ []) }
     {
         if byte == b'\\' {
-            return self.fill_told(byte, place);
+            return self.fill_by_escape(byte, place);
         }
         let pen = self.pen();
         match pen.steps_to(place) {
             Some(cells) => self.copies(byte, cells, place),
-            None => self.fill_told(byte, place),
+            None => self.fill_by_escape(byte, place),
         }
     }
 

@@ -68,7 +68,7 @@ impl<'a, W: Sink> Out<'a, W> {
     }
 
     /// Whether the sink failed.
-    pub fn told(&self) -> Result<(), Fault>
+    pub fn returned(&self) -> Result<(), Fault>
         ensures ok { OnOk result (self.now.failed ≡ false) }
         ensures err { OnErr result (self.now.failed ≡ true) }
     {
@@ -113,7 +113,7 @@ impl<'a, W: Sink> Out<'a, W> {
         ensures err { OnErr result (self.new.failed ≡ true) }
     {
         self.send();
-        self.told()
+        self.returned()
     }
 
     /// The sink. What waits is lost.
@@ -131,7 +131,7 @@ impl<'a, W: Sink> Out<'a, W> {
         ensures err { OnErr result (self.new.failed ≡ true) }
     {
         self.add(bytes);
-        self.told()
+        self.returned()
     }
 
     /// Bytes go out where none wait.

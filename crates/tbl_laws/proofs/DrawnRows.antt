@@ -195,24 +195,24 @@ lines_to z w rows field zero p h few = refl
 lines_to z w rows field (suc k) p h few =
     let f = nth_strokes z in
     let inside : k < rows = omega (arith, few) in
-    let front = joined (k + k) f in
+    let prefix = joined (k + k) f in
     let none : f (k + k) ≡ Bytes [] ∷ Bytes [] ∷ [] =
     ap (λ (ss : List Step). step_strokes z (get_or ss (k + k) no_step)) h.steps_are
     ∙ ap (step_strokes z) (even_step rows k inside)
     ∙ ap (λ (l : List ℕ). Bytes l ∷ Bytes (room z k) ∷ []) (h.none_defined k inside)
     ∙ ap (λ (l : List ℕ). Bytes [] ∷ Bytes l ∷ []) (h.no_room k inside) in
-    let pen = after_all (front ++ f (k + k)) p in
+    let pen = after_all (prefix ++ f (k + k)) p in
     let here : f (suc (k + k)) ≡ row_lines z k k =
     ap (λ (ss : List Step). step_strokes z (get_or ss (suc (k + k)) no_step)) h.steps_are ∙ ap (step_strokes z) (odd_step rows k inside) in
     let (line, is, fields) = row_line z w rows field k k pen h inside in
-    let bytes : bytes_of (joined (suc k + suc k) f) p ≡ bytes_of front p ++ (line ++ codes "\n") =
+    let bytes : bytes_of (joined (suc k + suc k) f) p ≡ bytes_of prefix p ++ (line ++ codes "\n") =
     ap (λ (n : ℕ). bytes_of (joined n f) p) (let e : suc k + suc k ≡ suc (suc (k + k)) = omega arith in e)
-    ∙ bytes_of-append (front ++ f (k + k)) (f (suc (k + k))) p
-    ∙ ap (λ (l : List ℕ). l ++ bytes_of (f (suc (k + k))) pen) (bytes_of-append front (f (k + k)) p ∙ ap (λ (ks : List Stroke). bytes_of front p ++ bytes_of ks (after_all front p)) none ∙ append-nil (bytes_of front p))
-    ∙ ap (λ (ks : List Stroke). bytes_of front p ++ bytes_of ks pen) here
-    ∙ ap (λ (l : List ℕ). bytes_of front p ++ l) is in
+    ∙ bytes_of-append (prefix ++ f (k + k)) (f (suc (k + k))) p
+    ∙ ap (λ (l : List ℕ). l ++ bytes_of (f (suc (k + k))) pen) (bytes_of-append prefix (f (k + k)) p ∙ ap (λ (ks : List Stroke). bytes_of prefix p ++ bytes_of ks (after_all prefix p)) none ∙ append-nil (bytes_of prefix p))
+    ∙ ap (λ (ks : List Stroke). bytes_of prefix p ++ bytes_of ks pen) here
+    ∙ ap (λ (l : List ℕ). bytes_of prefix p ++ l) is in
     subst (AreLines (gathered (λ r. gathered (field r) w) (suc k))) (sym bytes)
-    (lines_then (gathered (λ r. gathered (field r) w) k) (gathered (field k) w) (bytes_of front p) line
+    (lines_then (gathered (λ r. gathered (field r) w) k) (gathered (field k) w) (bytes_of prefix p) line
     (lines_to z w rows field k p h (omega (arith, few))) fields)
 
 -- no request stands among them

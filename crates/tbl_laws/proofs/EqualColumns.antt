@@ -37,10 +37,10 @@ made_width v c inside e =
     turn_same (λ (w : Grid). (column w c).equal) (equal_column widest) (equal_same (λ (x : Column). x.equal) (λ n x. refl) c widest) c v ∙ e in
     let count : columns u ≡ columns v = turn_same columns (equal_column widest) (equal_beside columns (λ w n x. length-set w.columns.items n x) widest) c v in
     let inner : c < columns u = subst (λ (k : ℕ). c < k) (sym count) inside in
-    let met : equal_column widest c u ≡ record u { columns = put c (with_width widest (column u c)) u.columns } =
+    let agreed : equal_column widest c u ≡ record u { columns = put c (with_width widest (column u c)) u.columns } =
     if_true (column u c).equal (record u { columns = put c (with_width widest (column u c)) u.columns }) u flag in
     let there : (column (equal_column widest c u) c).width ≡ widest =
-    ap (λ (w : Grid). (column w c).width) met
+    ap (λ (w : Grid). (column w c).width) agreed
     ∙ ap (λ (x : Column). x.width) (get_or-set_same u.columns.items c (with_width widest (column u c)) fresh inner) in
     later_has (λ (w : Grid). (column w c).width ≡ widest) (equal_column widest) (equal_stays widest c) (suc c) (columns v) v (omega (arith, inside)) there
 

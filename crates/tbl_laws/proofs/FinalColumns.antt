@@ -12,7 +12,7 @@ use Rattle.tbl_columns.specs.Held.{cell_of, column, columns, fresh}
 use Rattle.tbl_columns.specs.Measured.{by_blocks, by_fields, line_shared, measured_columns, measured_table}
 use Rattle.tbl_columns.specs.Narrow.{is_too_wide, made_narrow}
 use Rattle.tbl_columns.specs.Shares.{Gaps, Sharing, all_parts, edges_shared, first_sharing, gap_parts, gap_shared, gaps_shared, gaps_so_far, has_no_rest, has_wide, line_room, only_widened, share_in, share_of_gaps, shared_at, shared_column, shared_columns, shared_gap, shared_gaps, some_gaps_shared}
-use Rattle.tbl_columns.specs.Texts.{counted_cell, fill_width, filled_at, filled_blocks, filled_cell, filled_in, filled_some, is_due}
+use Rattle.tbl_columns.specs.Texts.{counted_cell, fill_width, filled_at, filled_blocks, filled_cell, filled_in, filled_some, is_pending}
 use Rattle.tbl_columns.proofs.Fits.{equal_width, fields_fit, most, width_in}
 use Rattle.tbl_columns.proofs.LeastFits.{least_fits}
 use Rattle.tbl_columns.proofs.SpansFit.{spans_fit, with_grows}
@@ -141,7 +141,7 @@ filled_covers : (same over wide : Bool) (n : ℕ) (t : Grid) → Covers same t (
 filled_covers same over wide n t =
     let width = fill_width t (cell_of t n) in
     let u = filled_cell n width t in
-    covers_if same (is_due t (cell_of t n) over wide) t (counted_cell n u) t
+    covers_if same (is_pending t (cell_of t n) over wide) t (counted_cell n u) t
     (covers_then same t u (counted_cell n u)
     (covers_as same t u (filled_table (cell_of t n).block n _ t) (filled_columns (cell_of t n).block n _ t)) (counted_covers same n u))
     (covers_itself same t)

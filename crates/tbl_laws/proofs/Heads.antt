@@ -15,7 +15,7 @@ use Rattle.tbl_reader.specs.declared.state.Mode.TheVariants as modes
 use Rattle.tbl_reader.specs.declared.telling.Tell.TheVariants as tells
 use Rattle.tbl_reader.specs.Commands.{is_command}
 use Rattle.tbl_reader.specs.Ending.{first_page}
-use Rattle.tbl_reader.specs.Fields.{behind}
+use Rattle.tbl_reader.specs.Fields.{one_later}
 use Rattle.tbl_reader.specs.Formats.{first_formats, read}
 use Rattle.tbl_reader.specs.HeadLines.{formats_after, formats_ended, formats_judged, formats_line, formats_said, formats_taken, given_up_line, head_ended, head_line, measured_with, options_line, options_split, widths_in, wrong_in}
 use Rattle.tbl_reader.specs.Measure.{is_wider}
@@ -29,9 +29,9 @@ use Rattle.tbl_reader.proofs.Keeping.{fed_keeps}
 use Rattle.tbl_reader.proofs.Runs.{fed_append}
 use Rattle.tbl_reader.proofs.Whole.{lines_are_read}
 use Rattle.tbl_laws.specs.OutsideText.{IsOutside}
-use Rattle.tbl_laws.specs.Rows.{FormatsAreRead, IsBetweenRows, TablesAreTold, are_columns, columns_in, is_column, separates, table_with}
+use Rattle.tbl_laws.specs.Rows.{FormatsAreRead, IsBetweenRows, TablesAreEmitted, are_columns, columns_in, is_column, separates, table_with}
 use Rattle.tbl_laws.proofs.Rows.{both_first, both_second}
-use Rattle.tbl_laws.proofs.RowsLaw.{no_command, rows_are_told}
+use Rattle.tbl_laws.proofs.RowsLaw.{no_command, rows_are_emitted}
 
 -- ---- one of these four bytes
 
@@ -117,9 +117,9 @@ not_that x b l r c blank h = by_byte (λ y. (y == x) ≡ false) b l r c blank h
 no_options_in : (opened : Bool) (bytes : List ℕ) → are_columns bytes ≡ true → options_end_in opened (bytes ++ codes ".") ≡ None
 no_options_in opened [] h = refl
 no_options_in opened (b ∷ bs) h =
-    ap (λ (t : Bool). if t && not opened then Some 0 else behind (options_end_in (b == code "(") (bs ++ codes ".")))
+    ap (λ (t : Bool). if t && not opened then Some 0 else one_later (options_end_in (b == code "(") (bs ++ codes ".")))
     (not_that (code ";") b refl refl refl refl (both_first _ _ h))
-    ∙ ap behind (no_options_in (b == code "(") bs (both_second _ _ h))
+    ∙ ap one_later (no_options_in (b == code "(") bs (both_second _ _ h))
 
 pub dotted : (so_far : Bool) (bytes : List ℕ) → dotted_after so_far (bytes ++ codes ".") ≡ true
 dotted so_far [] = refl
@@ -272,15 +272,15 @@ head_said p bytes outside h some few room = by_count (columns_in bytes) refl som
         let said = formats_said (first_formats 0 0 false) (line ++ codes "\n") ++ piece tells.FormatsEnd [] ∷ [] in
         let f = formats_after (first_formats 0 0 false) (line ++ codes "\n") in
         let (wrongs, judged_is, wrong) = judged_said n r (formats_taken f r) refl in
-        let front = each tells.Pass (codes ".TS\n") ++ piece tells.Table [] ∷ [] in (
+        let prefix = each tells.Pass (codes ".TS\n") ++ piece tells.Table [] ∷ [] in (
           wrongs,
           ap (λ (xs : List ℕ). (fed xs at).pieces) (append_assoc (codes ".TS\n") line (codes "\n"))
               ∙ ap (λ (e : Effect). e.pieces) (fed_append (codes ".TS\n") (line ++ codes "\n") at)
-              ∙ ap (λ (e : Effect). front ++ e.pieces) (lines_are_read line (begun p) refl (one_line bytes h) fits)
-              ∙ ap (λ (e : Effect). front ++ (e.pieces ++ [])) (head_read p bytes h some)
-              ∙ ap (λ (l : List Piece). front ++ l) (append-nil (formats_ended r).pieces)
-              ∙ ap (λ (g : Formats). front ++ (said ++ (formats_judged (wrong_in g r) (formats_taken f r)).pieces)) (formats_end bytes n h is most)
-              ∙ ap (λ (l : List Piece). front ++ (said ++ l)) judged_is,
+              ∙ ap (λ (e : Effect). prefix ++ e.pieces) (lines_are_read line (begun p) refl (one_line bytes h) fits)
+              ∙ ap (λ (e : Effect). prefix ++ (e.pieces ++ [])) (head_read p bytes h some)
+              ∙ ap (λ (l : List Piece). prefix ++ l) (append-nil (formats_ended r).pieces)
+              ∙ ap (λ (g : Formats). prefix ++ (said ++ (formats_judged (wrong_in g r) (formats_taken f r)).pieces)) (formats_end bytes n h is most)
+              ∙ ap (λ (l : List Piece). prefix ++ (said ++ l)) judged_is,
           wrong,
         )
 
@@ -292,11 +292,11 @@ head_said p bytes outside h some few room = by_count (columns_in bytes) refl som
 pub formats_are_read : FormatsAreRead
 formats_are_read bytes p outside h some few room = read_with (columns_in bytes) bytes p outside h refl some few room
 
-pub tables_are_told : TablesAreTold
-tables_are_told l cells before bytes rows rest outside h some few room are =
+pub tables_are_emitted : TablesAreEmitted
+tables_are_emitted l cells before bytes rows rest outside h some few room are =
     let p = (fed before (first_page l cells)).page in
     let keeps = fed_keeps before (first_page l cells) (omega arith) in
     let fits : length bytes < p.limits.formats = subst (λ (x : Limits). length bytes < x.formats) (sym keeps.limits) room in
-    rows_are_told l cells (code "\t") (columns_in bytes) (before ++ table_with bytes) rows rest
+    rows_are_emitted l cells (code "\t") (columns_in bytes) (before ++ table_with bytes) rows rest
     (subst (λ (e : Effect). IsBetweenRows (code "\t") (columns_in bytes) e.page) (sym (fed_append before (table_with bytes) (first_page l cells)))
     (formats_are_read bytes p outside h some few fits)) are

@@ -18,7 +18,7 @@ use Rattle.tbl_setting.specs.declared.setting.Setting.{Setting}
 use Rattle.tbl_setting.specs.Held.{table, table_set, table_strokes, waits, with_table, with_wide}
 use Rattle.tbl_setting.specs.Setting.{relief, relieved, set, strokes}
 use Rattle.tbl_laws.specs.HeldRows.{AreAmong, HasRoom, HoldsRows, RowsAreHeld, all_bytes, all_fields, all_of, all_rows, count}
-use Rattle.tbl_laws.specs.Rows.{are_of_rows, is_of_row, rows_told}
+use Rattle.tbl_laws.specs.Rows.{are_of_rows, is_of_row, rows_emitted}
 use Rattle.tbl_laws.proofs.HeldRows.{Grown, IsWithin, Like, field_grows, field_like, line_stays, loose, mark_grows, mark_like, no_texts, none_within, one_more, row_is, texts_are, texts_in}
 use Rattle.tbl_laws.proofs.Rows.{both_first, both_second, is_not}
 
@@ -200,7 +200,7 @@ row_stays t s p ps r u =
 pub record Result (ps : List Piece) (o t : Table) (s : Setting) (rows : List (List (List ℕ))) (next : List (List ℕ)) : Type 0 where
   pub left : List (List ℕ)
   pub now : Table
-  pub held : Held o now (rows ++ rows_told next ps) left
+  pub held : Held o now (rows ++ rows_emitted next ps) left
   pub waiting : Option Complaint
   pub becomes : set ps (with_table t s) ≡ with_wide waiting (with_table now s)
   pub silent : strokes ps (with_table t s) ≡ []
@@ -211,15 +211,15 @@ Next ps = (o t : Table) (s : Setting) (rows : List (List (List ℕ))) (next : Li
 abbrev Step : Tell → List ℕ → List Piece → Type 0
 Step tell text ps = Next ps → Next (piece tell text ∷ ps)
 
-field_step : (front : Option ℕ) (text : List ℕ) (ps : List Piece) → joins text ≡ false → Step (tells.Field front) text ps
-field_step front text ps plain more o t s rows next h r =
+field_step : (prefix : Option ℕ) (text : List ℕ) (ps : List Piece) → joins text ≡ false → Step (tells.Field prefix) text ps
+field_step prefix text ps plain more o t s rows next h r =
     let few : length t.fields.items < t.fields.capacity = (let a = r.fields in omega (arith, a)) in
     let fits : length t.text.items + length text ≤ t.text.capacity = (let a = r.text in omega (arith, a)) in
-    let g = field_grows t text front h.within plain fits few in
-    let k = field_like t text front in
-    let m = more o (field_added text front t) s rows (next ++ text ∷ []) (field_held o t (field_added text front t) rows next text h g k
+    let g = field_grows t text prefix h.within plain fits few in
+    let k = field_like t text prefix in
+    let m = more o (field_added text prefix t) s rows (next ++ text ∷ []) (field_held o t (field_added text prefix t) rows next text h g k
     (text_if (nat_lt (length t.fields.items) t.fields.capacity) t.fields.items _ h.forms refl) refl)
-    (field_room t (field_added text front t) (piece (tells.Field front) text) ps text r g k refl refl (let n : 0 + all_rows ps ≡ all_rows ps = omega arith in n)) in
+    (field_room t (field_added text prefix t) (piece (tells.Field prefix) text) ps text r g k refl refl (let n : 0 + all_rows ps ≡ all_rows ps = omega arith in n)) in
     record { left = m.left; now = m.now; held = m.held; waiting = m.waiting; becomes = m.becomes; silent = m.silent }
 
 mark_step : (text : List ℕ) (ps : List Piece) → Step (tells.Mark marks.Nothing) text ps
@@ -247,7 +247,7 @@ row_step text ps more o t s rows next h r =
           ∙ ap (strokes ps) stays.0 ∙ m.silent;
       waiting = m.waiting;
       becomes = ap (set ps) stays.0 ∙ m.becomes;
-      held = subst (λ (l : List (List (List ℕ))). Held o m.now l m.left) (append_assoc rows (next ∷ []) (rows_told [] ps)) m.held;
+      held = subst (λ (l : List (List (List ℕ))). Held o m.now l m.left) (append_assoc rows (next ∷ []) (rows_emitted [] ps)) m.held;
     }
 
 same_step : (c : Complaint) (text : List ℕ) (ps : List Piece) → Step (tells.Wrong c) text ps
@@ -261,14 +261,14 @@ same_step c text ps more o t s rows next h r =
       waiting = m.waiting;
       becomes = m.becomes;
       silent = m.silent;
-      held = subst (λ (l : List (List ℕ)). Held o m.now (rows ++ rows_told l ps) m.left) (sym (append-nil next)) m.held;
+      held = subst (λ (l : List (List ℕ)). Held o m.now (rows ++ rows_emitted l ps) m.left) (sym (append-nil next)) m.held;
     }
 
 never : {A : Type 0} → false ≡ true → A
 never h = absurd (let no : false ≡ true = h in cc)
 
 by_tell : (tell : Tell) (text : List ℕ) (ps : List Piece) → is_of_row tell text ≡ true → Step tell text ps
-by_tell (tells.Field front) text ps is = field_step front text ps (is_not _ is)
+by_tell (tells.Field prefix) text ps is = field_step prefix text ps (is_not _ is)
 by_tell (tells.Mark marks.Nothing) text ps is = mark_step text ps
 by_tell (tells.Mark marks.Rule) text ps is = never is
 by_tell (tells.Mark marks.Inner) text ps is = never is
@@ -332,6 +332,6 @@ rows_are_held s ps fields rows from room are =
     let m = all_held ps are (table s) (table s) s [] [] (none_held (table s) fields rows from) room in
     let now = ap table m.becomes in (
       m.left,
-      subst (λ (t : Table). HoldsRows t (rows_told [] ps) m.left) (sym now)
+      subst (λ (t : Table). HoldsRows t (rows_emitted [] ps) m.left) (sym now)
           (record { texts = texts_are m.now ∙ m.held.texts; among = m.held.among }),
     )

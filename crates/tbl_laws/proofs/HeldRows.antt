@@ -15,15 +15,15 @@ use Rattle.tbl_table.specs.Sums.{sum}
 
 -- ---- parts of a text that grows
 
-take_front : (n : ℕ) (xs ys : List ℕ) → n ≤ length xs → take n (xs ++ ys) ≡ take n xs
-take_front zero xs ys h = refl
-take_front (suc n) [] ys h = absurd (omega (arith, h))
-take_front (suc n) (x ∷ xs) ys h = ap (λ (l : List ℕ). x ∷ l) (take_front n xs ys (omega (arith, h)))
+take_prefix : (n : ℕ) (xs ys : List ℕ) → n ≤ length xs → take n (xs ++ ys) ≡ take n xs
+take_prefix zero xs ys h = refl
+take_prefix (suc n) [] ys h = absurd (omega (arith, h))
+take_prefix (suc n) (x ∷ xs) ys h = ap (λ (l : List ℕ). x ∷ l) (take_prefix n xs ys (omega (arith, h)))
 
-part_front : (s n : ℕ) (xs ys : List ℕ) → s + n ≤ length xs → take n (drop s (xs ++ ys)) ≡ take n (drop s xs)
-part_front zero n xs ys h = take_front n xs ys (omega (arith, h))
-part_front (suc s) n [] ys h = absurd (omega (arith, h))
-part_front (suc s) n (x ∷ xs) ys h = part_front s n xs ys (omega (arith, h))
+part_prefix : (s n : ℕ) (xs ys : List ℕ) → s + n ≤ length xs → take n (drop s (xs ++ ys)) ≡ take n (drop s xs)
+part_prefix zero n xs ys h = take_prefix n xs ys (omega (arith, h))
+part_prefix (suc s) n [] ys h = absurd (omega (arith, h))
+part_prefix (suc s) n (x ∷ xs) ys h = part_prefix s n xs ys (omega (arith, h))
 
 part_by : (before : Bool) (xs ys : List ℕ) (s : Span) → nat_le s.start s.«end» ≡ before → s.«end» ≤ length xs → part (xs ++ ys) s ≡ part xs s
 part_by false xs ys s e h = rw e refl
@@ -33,7 +33,7 @@ part_by true xs ys s e h =
     let now : nat_le s.«end» (length (xs ++ ys)) ≡ true = le-leb _ _ (omega (arith, long, h)) in
     let was : nat_le s.«end» (length xs) ≡ true = le-leb _ _ h in
     ap (λ (t : Bool). if t then take (s.«end» - s.start) (drop s.start (xs ++ ys)) else []) (both e now)
-    ∙ part_front s.start (s.«end» - s.start) xs ys (omega (arith, order, h))
+    ∙ part_prefix s.start (s.«end» - s.start) xs ys (omega (arith, order, h))
     ∙ sym (ap (λ (t : Bool). if t then take (s.«end» - s.start) (drop s.start xs) else []) (both e was))
   where
     both : {x y : Bool} → x ≡ true → y ≡ true → (x && y) ≡ true
@@ -141,23 +141,23 @@ pub one_more : {A : Type 0} (xs : List A) (x : A) (capacity : ℕ) → length xs
 one_more xs x capacity h = ap (λ (t : Bool). if t then xs ++ x ∷ [] else xs) (lt-ltb (length xs) capacity h)
 
 field_of : ℕ → ℕ → Option ℕ → Field
-field_of a b front = record { form = forms.Text; span = record { start = a; «end» = b }; front = front }
+field_of a b prefix = record { form = forms.Text; span = record { start = a; «end» = b }; prefix = prefix }
 
-pub field_grows : (t : Table) (text : List ℕ) (front : Option ℕ) → IsWithin (length t.text.items) t.fields.items → joins text ≡ false
-    → length t.text.items + length text ≤ t.text.capacity → length t.fields.items < t.fields.capacity → Grown t (field_added text front t) text
+pub field_grows : (t : Table) (text : List ℕ) (prefix : Option ℕ) → IsWithin (length t.text.items) t.fields.items → joins text ≡ false
+    → length t.text.items + length text ≤ t.text.capacity → length t.fields.items < t.fields.capacity → Grown t (field_added text prefix t) text
 unfolding field_of
-field_grows t text front w plain room few =
+field_grows t text prefix w plain room few =
     let fits : nat_le (length text) (t.text.capacity - length t.text.items) ≡ true = le-leb _ _ (omega (arith, room)) in
-    let text_is : (field_added text front t).text.items ≡ t.text.items ++ text =
+    let text_is : (field_added text prefix t).text.items ≡ t.text.items ++ text =
     ap (λ (x : Bool). if x then t.text.items ++ text else t.text.items) fits in
     let none : joined text ≡ 0 = ap (λ (x : Bool). if x then 2 else 0) plain in
     let long = length-append t.text.items text in
     let now = ap length text_is in
-    grown_by t (field_added text front t) text (field_of (length t.text.items) (length (field_added text front t).text.items - joined text) front) w text_is
+    grown_by t (field_added text prefix t) text (field_of (length t.text.items) (length (field_added text prefix t).text.items - joined text) prefix) w text_is
     (one_more t.fields.items _ t.fields.capacity few) refl (omega (arith, long, now, none))
 
-pub field_like : (t : Table) (text : List ℕ) (front : Option ℕ) → Like t (field_added text front t)
-field_like t text front = record { lines = refl; first = refl; text = refl; most = refl; fields = refl; rows = refl; items = refl; from = refl }
+pub field_like : (t : Table) (text : List ℕ) (prefix : Option ℕ) → Like t (field_added text prefix t)
+field_like t text prefix = record { lines = refl; first = refl; text = refl; most = refl; fields = refl; rows = refl; items = refl; from = refl }
 
 pub mark_grows : (t : Table) → IsWithin (length t.text.items) t.fields.items → length t.fields.items < t.fields.capacity → Grown t (mark_added forms.Text t) []
 unfolding field_of

@@ -20,5 +20,5 @@ pub mod TableEnds
 pub mod TableLines
 pub mod TextPasses
 pub mod Texts
-pub mod ToldRows
+pub mod EmittedRows
 pub mod Walked

@@ -4,7 +4,7 @@ use Rattle.tbl_columns.specs.declared.grid.Cell.{Cell}
 use Rattle.tbl_columns.specs.declared.grid.Column.{Column}
 use Rattle.tbl_columns.specs.declared.grid.Grid.{Grid}
 use Rattle.tbl_columns.specs.Cells.{columns_over}
-use Rattle.tbl_columns.specs.Columns.{Dealing, dealing, dealt_at, equal_column, front_cells, is_alpha, is_number, left_for, made_equal, measured_cell, measured_cells, measured_fields, measured_spans, measures, needs, settled_column, settled_columns, span_width, spanned_cell, spans, widened, wider, widest_equal, with_field, with_width}
+use Rattle.tbl_columns.specs.Columns.{Dealing, dealing, dealt_at, equal_column, prefix_cells, is_alpha, is_number, left_for, made_equal, measured_cell, measured_cells, measured_fields, measured_spans, measures, needs, settled_column, settled_columns, span_width, spanned_cell, spans, widened, wider, widest_equal, with_field, with_width}
 use Rattle.tbl_columns.specs.Counted.{as_wide, with_alpha, with_number, with_text}
 use Rattle.tbl_columns.specs.Frames.{Laying, laid, laid_at, laid_out, laying, left_edge}
 use Rattle.tbl_columns.specs.Held.{cell_of, column, columns, fresh}
@@ -57,13 +57,13 @@ alike_turn f each k t = turn_has (Alike t) f (λ n x h. alike_then t x (f n x) h
 
 field_wide : (t : Grid) (f : Cell) (c : Column) → (with_field t f c).wide ≡ c.wide
 field_wide t f c =
-    if_same (λ (x : Column). x.wide) (is_alpha f) (with_alpha f.width c) (if is_number f then with_number f.width (front_cells t f) c else with_text f.width c) c.wide refl
-    (if_same (λ (x : Column). x.wide) (is_number f) (with_number f.width (front_cells t f) c) (with_text f.width c) c.wide refl refl)
+    if_same (λ (x : Column). x.wide) (is_alpha f) (with_alpha f.width c) (if is_number f then with_number f.width (prefix_cells t f) c else with_text f.width c) c.wide refl
+    (if_same (λ (x : Column). x.wide) (is_number f) (with_number f.width (prefix_cells t f) c) (with_text f.width c) c.wide refl refl)
 
 field_equal : (t : Grid) (f : Cell) (c : Column) → (with_field t f c).equal ≡ c.equal
 field_equal t f c =
-    if_same (λ (x : Column). x.equal) (is_alpha f) (with_alpha f.width c) (if is_number f then with_number f.width (front_cells t f) c else with_text f.width c) c.equal refl
-    (if_same (λ (x : Column). x.equal) (is_number f) (with_number f.width (front_cells t f) c) (with_text f.width c) c.equal refl refl)
+    if_same (λ (x : Column). x.equal) (is_alpha f) (with_alpha f.width c) (if is_number f then with_number f.width (prefix_cells t f) c else with_text f.width c) c.equal refl
+    (if_same (λ (x : Column). x.equal) (is_number f) (with_number f.width (prefix_cells t f) c) (with_text f.width c) c.equal refl refl)
 
 cell_alike : (n : ℕ) (t : Grid) → Alike t (measured_cell n t)
 cell_alike n t =

@@ -98,8 +98,8 @@ module _ (options : List ℕ) (p : Page) (h : is_line options ≡ true) (b : beg
 
 -- ---- and the line of formats
 
-drop_front : (n : ℕ) (xs ys : List ℕ) → n ≡ length xs → drop n (xs ++ ys) ≡ ys
-drop_front n xs ys h = ap (λ (m : ℕ). drop m (xs ++ ys)) h ∙ from_there xs ys
+drop_prefix : (n : ℕ) (xs ys : List ℕ) → n ≡ length xs → drop n (xs ++ ys) ≡ ys
+drop_prefix n xs ys h = ap (λ (m : ℕ). drop m (xs ++ ys)) h ∙ from_there xs ys
 
 module _ (options formats : List ℕ) (q : Page) (n : ℕ) (separated : separates (options_of options).tab ≡ true) (blanks : (options_of options).nospaces ≡ false)
     (h : are_columns formats ≡ true) (is : columns_in formats ≡ suc n) (few : suc n ≤ 64) (new : q.state.formats ≡ first_formats 0 0 false) where
@@ -109,14 +109,14 @@ module _ (options formats : List ℕ) (q : Page) (n : ℕ) (separated : separate
   line_is : line_of whole ≡ formats ++ codes "."
   unfolding whole opted
   line_is =
-      drop_front (length (options ++ codes ";") + 1) ((options ++ codes ";") ++ codes "\n") (formats ++ codes ".")
+      drop_prefix (length (options ++ codes ";") + 1) ((options ++ codes ";") ++ codes "\n") (formats ++ codes ".")
       (sym (length-append (options ++ codes ";") (codes "\n")))
 
   rest_is : rest_of whole ≡ codes "\n" ++ (formats ++ codes ".")
   unfolding whole opted
   rest_is =
       ap (drop (length options + 1)) (append_assoc (options ++ codes ";") (codes "\n") (formats ++ codes "."))
-      ∙ drop_front (length options + 1) (options ++ codes ";") (codes "\n" ++ (formats ++ codes ".")) (sym (length-append options (codes ";")))
+      ∙ drop_prefix (length options + 1) (options ++ codes ";") (codes "\n" ++ (formats ++ codes ".")) (sym (length-append options (codes ";")))
 
   formats_are : formats_after (first_formats 0 0 false) (rest_of whole ++ codes "\n") ≡ ended n
   unfolding ended

@@ -80,7 +80,7 @@ said_of l cells before text rest outside h =
           ∙ ap (λ (e : Effect). (ps ++ e.pieces) ++ (finished e.page).pieces) (fed_append text rest p)
           ∙ append_assoc ps ((fed text p).pieces ++ r.pieces) ends
           ∙ ap (λ (xs : List Piece). ps ++ xs) (append_assoc (fed text p).pieces r.pieces ends
-          ∙ ap (λ (xs : List Piece). xs ++ (r.pieces ++ ends)) (passes p text outside h).told),
+          ∙ ap (λ (xs : List Piece). xs ++ (r.pieces ++ ends)) (passes p text outside h).emitted),
     )
 
 -- nothing follows
@@ -93,7 +93,7 @@ said_to_end l cells before text outside h =
     let c = passes p text outside h in
     ap (λ (e : Effect). (and_then e finished).pieces) (fed_append before text (first_page l cells))
     ∙ append_assoc ps (fed text p).pieces (finished (fed text p).page).pieces
-    ∙ ap (λ (xs : List Piece). ps ++ xs) (ap (λ (xs : List Piece). (fed text p).pieces ++ xs) c.ends ∙ append-nil (fed text p).pieces ∙ c.told)
+    ∙ ap (λ (xs : List Piece). ps ++ xs) (ap (λ (xs : List Piece). (fed text p).pieces ++ xs) c.ends ∙ append-nil (fed text p).pieces ∙ c.emitted)
 
 so_far_is_all : (w : Bounds) (before : List ℕ)
     → (fed before (first_page w.limits w.cells)).page.state.mode ≡ modes.Passing starts.Nothing → set_so_far w before ≡ set_page w before

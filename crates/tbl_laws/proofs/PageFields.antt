@@ -34,7 +34,7 @@ use Rattle.tbl_table.specs.Table.{first_table}
 use Rattle.tbl_laws.specs.HeldRows.{HasRoom, all_of, count}
 use Rattle.tbl_laws.specs.Lines.{AreLines, FieldsGoOut, FitsIn, all_printed, are_printed, head, is_printed, is_printing, is_wider, narrows, page_with, reaches_over}
 use Rattle.tbl_laws.specs.OutsideText as outside_text
-use Rattle.tbl_laws.specs.Rows.{AreRows, IsBetweenRows, Row, are_columns, are_fields, columns_in, fields_of_all, is_plain, rows_told, table_with, text_of, text_of_all}
+use Rattle.tbl_laws.specs.Rows.{AreRows, IsBetweenRows, Row, are_columns, are_fields, columns_in, fields_of_all, is_plain, rows_emitted, table_with, text_of, text_of_all}
 use Rattle.tbl_laws.proofs.FormatKeys.{formed, keys_of, letters_are, line_heard}
 use Rattle.tbl_laws.proofs.Heads.{IsWrong, formats_are_read, head_pieces, head_said}
 use Rattle.tbl_setting.proofs.HeardText.{Passed, passed_then, text_passed}
@@ -43,7 +43,7 @@ use Rattle.tbl_laws.proofs.HeldTables.{AllShown, AreFew, AreShown, CanHold, is_s
 use Rattle.tbl_laws.proofs.OutsideText.{bytes_both, text_bytes}
 use Rattle.tbl_laws.proofs.Rows.{both_first, both_second}
 use Rattle.tbl_laws.proofs.TextPasses.{passes}
-use Rattle.tbl_laws.proofs.ToldRows.{SoMuch, bytes_of_all, rows_tell, so_much}
+use Rattle.tbl_laws.proofs.EmittedRows.{SoMuch, bytes_of_all, rows_tell, so_much}
 
 -- ---- what stands on a page fits what is held
 
@@ -308,7 +308,7 @@ narrows_is b before clean outside =
     let pa = fed before p0 in
     let said : (fed (before ++ codes ".TS\n") p0).pieces ≡ A ++ B =
     ap (λ (x : Effect). x.pieces) (fed_append before (codes ".TS\n") p0)
-    ∙ ap (λ (x : List Piece). x ++ (fed (codes ".TS\n") pa.page).pieces) (passes p0 before refl clean).told
+    ∙ ap (λ (x : List Piece). x ++ (fed (codes ".TS\n") pa.page).pieces) (passes p0 before refl clean).emitted
     ∙ ap (λ (m : Mode). A ++ (fed (codes ".TS\n") (at_mode m pa.page)).pieces) outside
     ∙ ap (λ (x : List Piece). A ++ x) (begun_said pa.page) in
     let p = passed_then t (set A t) (set (each tells.Pass (codes ".TS\n")) (set A t)) (text_passed before t) (text_passed (codes ".TS\n") (set A t)) in
@@ -362,10 +362,10 @@ by_count (suc n) b before formats rows after clean outside rest h is some few ro
     let (wrongs, head_is, wrong) = head_said pa.page formats outside h (omega (arith, i)) (omega (arith, i, few)) room_a in
     let limits_b : pb.page.limits ≡ l = keep_b.limits ∙ keep_a.limits in
     let pc = fed (text_of_all tab rows) pb.page in
-    let told = rows_tell l tab (suc n) rows pb.page between limits_b are in
-    let much = so_much tab (suc n) rows pb.page pc told in
-    let limits_c : pc.page.limits ≡ l = told.limits ∙ limits_b in
-    let ends = ended_rows tab (suc n) pc.page told.page (subst (λ (x : Limits). 3 ≤ x.row) (sym limits_c) fits.line) in
+    let emitted = rows_tell l tab (suc n) rows pb.page between limits_b are in
+    let much = so_much tab (suc n) rows pb.page pc emitted in
+    let limits_c : pc.page.limits ≡ l = emitted.limits ∙ limits_b in
+    let ends = ended_rows tab (suc n) pc.page emitted.page (subst (λ (x : Limits). 3 ≤ x.row) (sym limits_c) fits.line) in
     let pd = fed outside_text.table_end pc.page in
     let last = passes pd.page after ends.1 rest in
     let pe = fed after pd.page in
@@ -375,7 +375,7 @@ by_count (suc n) b before formats rows after clean outside rest h is some few ro
     let T = pc.pieces in
     let E = piece tells.TableEnd [] ∷ each tells.Pass outside_text.table_end in
     let Z = each tells.Pass after in
-    let said_a : pa.pieces ≡ A = (passes p0 before refl clean).told in
+    let said_a : pa.pieces ≡ A = (passes p0 before refl clean).emitted in
     let said : page_said l cells (page_with before formats rows after) ≡ (((A ++ H) ++ T) ++ E) ++ Z =
     said_is l cells before (table_with formats) (text_of_all tab rows) outside_text.table_end after
     ∙ ap (λ (x : List Piece). ((((pa.pieces ++ pb.pieces) ++ T) ++ pd.pieces) ++ pe.pieces) ++ x) last.ends
@@ -383,7 +383,7 @@ by_count (suc n) b before formats rows after clean outside rest h is some few ro
     ∙ ap (λ (x : List Piece). (((x ++ pb.pieces) ++ T) ++ pd.pieces) ++ pe.pieces) said_a
     ∙ ap (λ (x : List Piece). (((A ++ x) ++ T) ++ pd.pieces) ++ pe.pieces) head_is
     ∙ ap (λ (x : List Piece). (((A ++ H) ++ T) ++ x) ++ pe.pieces) ends.0
-    ∙ ap (λ (x : List Piece). (((A ++ H) ++ T) ++ E) ++ x) last.told in
+    ∙ ap (λ (x : List Piece). (((A ++ H) ++ T) ++ E) ++ x) last.emitted in
     let s = set A t in
     let passed = text_passed before t in
     let begins = is_begun b s passed in
@@ -397,9 +397,9 @@ by_count (suc n) b before formats rows after clean outside rest h is some few ro
     let none : (table v).fields.items ≡ [] = ap (λ (x : Table). x.fields.items) begins.table_is in
     let no_rows : (table v).rows.items ≡ [] = ap (λ (x : Table). x.rows.items) begins.table_is in
     let no_from : (table v).row_from ≡ 0 = ap (λ (x : Table). x.row_from) begins.table_is in
-    let held = all_held T told.only o o waits_so [] [] (none_held o none no_rows no_from) (has_room b s n formats rows T begins few are fits much) in
-    let rows_is : rows_told [] T ≡ fields_of_all rows =
-    ap (rows_told []) (sym (append-nil T)) ∙ told.told [] ∙ append-nil (fields_of_all rows) in
+    let held = all_held T emitted.only o o waits_so [] [] (none_held o none no_rows no_from) (has_room b s n formats rows T begins few are fits much) in
+    let rows_is : rows_emitted [] T ≡ fields_of_all rows =
+    ap (rows_emitted []) (sym (append-nil T)) ∙ emitted.emitted [] ∙ append-nil (fields_of_all rows) in
     let u = with_wide held.waiting (with_table held.now v) in
     let set_aht : set ((A ++ H) ++ T) t ≡ u = set_both (A ++ H) T t ∙ ap (set T) set_ah ∙ held.becomes in
     let pen_a = after_all (strokes A t) first in

@@ -5,7 +5,7 @@ use Prim.Native.Char.{code}
 use Rattle.std.specs.Prelude.{get_or, nat_le}
 use Rattle.tbl_table.specs.Rows.{joins}
 use Rattle.tbl_reader.specs.declared.state.State.{State}
-use Rattle.tbl_reader.specs.Fields.{marks_of, without_blanks_before, behind, place_of, shape_of}
+use Rattle.tbl_reader.specs.Fields.{marks_of, without_blanks_before, one_later, place_of, shape_of}
 use Rattle.tbl_reader.specs.Pages.{Page, Effect, effect, rest_of, line_of}
 use Rattle.tbl_reader.specs.RowLines.{Said, saying, solid, field_said, text_said, trimmed, shape_said, last_ended, rest_said, fields_ended, ended_at, after_field, next_said, widths_wrong}
 use Rattle.tbl_reader.specs.States.{field_counted, is_beyond, passes_line}
@@ -13,7 +13,7 @@ use Rattle.tbl_reader.specs.Numbers.{one_more}
 use Rattle.tbl_reader.specs.Measure.{cells_of}
 use Rattle.tbl_reader.specs.Telling.{Piece}
 use Rattle.tbl_reader.proofs.Steady.{choose}
-use Rattle.tbl_laws.specs.Rows.{are_fields, are_of_rows, is_mark, is_plain, rows_told, text_of}
+use Rattle.tbl_laws.specs.Rows.{are_fields, are_of_rows, is_mark, is_plain, rows_emitted, text_of}
 
 pub both_first : (x y : Bool) → (x && y) ≡ true → x ≡ true
 both_first true y h = refl
@@ -65,7 +65,7 @@ pub record At (tab columns fields : ℕ) (s : State) : Type 0 where
 -- the pieces of a field are its text, and what may be wrong with it
 pub record TellsField (tab columns fields : ℕ) (text : List ℕ) (said : Said) : Type 0 where
   pub state : At tab columns fields said.state
-  pub told : (before : List (List ℕ)) (ps : List Piece) → rows_told before (said.pieces ++ ps) ≡ rows_told (before ++ text ∷ []) ps
+  pub emitted : (before : List (List ℕ)) (ps : List Piece) → rows_emitted before (said.pieces ++ ps) ≡ rows_emitted (before ++ text ∷ []) ps
   pub only : are_of_rows said.pieces ≡ true
 
 wrongs_only : (wide : Bool) (s : State) → are_of_rows (widths_wrong wide s) ≡ true
@@ -84,9 +84,9 @@ both_false false y z h = refl
 no_join : (tab : ℕ) (text : List ℕ) → is_plain tab text ≡ true → joins text ≡ false
 no_join tab text h = both_false (nat_le 2 (length text)) _ _ (byte_at tab text (length text - 2) h)
 
-wrongs_told : (wide : Bool) (s : State) (before : List (List ℕ)) (ps : List Piece) → rows_told before (widths_wrong wide s ++ ps) ≡ rows_told before ps
-wrongs_told true s before ps = ap (λ (l : List (List ℕ)). rows_told l ps) (append-nil before)
-wrongs_told false s before ps = refl
+wrongs_emitted : (wide : Bool) (s : State) (before : List (List ℕ)) (ps : List Piece) → rows_emitted before (widths_wrong wide s ++ ps) ≡ rows_emitted before ps
+wrongs_emitted true s before ps = ap (λ (l : List (List ℕ)). rows_emitted l ps) (append-nil before)
+wrongs_emitted false s before ps = refl
 
 solid_is : (s : State) (text : List ℕ) → s.options.nospaces ≡ false → solid s text ≡ text
 solid_is s text h = ap (λ (t : Bool). if t then take (marks_of s.options.point text).solid text else text) h
@@ -94,19 +94,19 @@ solid_is s text h = ap (λ (t : Bool). if t then take (marks_of s.options.point 
 text_tells : (tab columns fields : ℕ) (s : State) (text : List ℕ) → At tab columns fields s → is_plain tab text ≡ true → TellsField tab columns fields text (text_said s text)
 text_tells tab columns fields s text a h =
     let as_one : not (joins (solid s text)) ≡ true = ap (λ (t : List ℕ). not (joins t)) (solid_is s text a.blanks) ∙ ap not (no_join tab text h) in
-    let as_text : (before : List (List ℕ)) (ps : List Piece) → rows_told (before ++ solid s text ∷ []) ps ≡ rows_told (before ++ text ∷ []) ps =
-    λ before ps. ap (λ (t : List ℕ). rows_told (before ++ t ∷ []) ps) (solid_is s text a.blanks) in
+    let as_text : (before : List (List ℕ)) (ps : List Piece) → rows_emitted (before ++ solid s text ∷ []) ps ≡ rows_emitted (before ++ text ∷ []) ps =
+    λ before ps. ap (λ (t : List ℕ). rows_emitted (before ++ t ∷ []) ps) (solid_is s text a.blanks) in
     choose (TellsField tab columns fields text) (is_beyond s) _ _
-    (record { state = a; told = as_text; only = ap (λ (t : Bool). t && true) as_one })
+    (record { state = a; emitted = as_text; only = ap (λ (t : Bool). t && true) as_one })
     (record {
       state = record { tab_is = a.tab_is; blanks = a.blanks; columns_are = a.columns_are; fields_are = a.fields_are };
-      told = λ before ps. wrongs_told (passes_line (cells_of (solid s text)) s) s (before ++ solid s text ∷ []) ps ∙ as_text before ps;
+      emitted = λ before ps. wrongs_emitted (passes_line (cells_of (solid s text)) s) s (before ++ solid s text ∷ []) ps ∙ as_text before ps;
       only = ap (λ (t : Bool). t && are_of_rows (widths_wrong (passes_line (cells_of (solid s text)) s) s)) as_one ∙ wrongs_only (passes_line (cells_of (solid s text)) s) s;
     })
 
 shape_tells : (tab columns fields : ℕ) (s : State) (text : List ℕ) → At tab columns fields s → is_plain tab text ≡ true → is_mark text ≡ false
     → TellsField tab columns fields text (shape_said (shape_of text) s text)
-shape_tells tab columns fields s [] a h m = record { state = a; told = λ before ps. refl; only = refl }
+shape_tells tab columns fields s [] a h m = record { state = a; emitted = λ before ps. refl; only = refl }
 shape_tells tab columns fields s (b ∷ []) a h m = rw m (text_tells tab columns fields s (b ∷ []) a h)
 shape_tells tab columns fields s (b ∷ c ∷ []) a h m = rw (no_backslash tab b (c ∷ []) h) (rw m (text_tells tab columns fields s (b ∷ c ∷ []) a h))
 shape_tells tab columns fields s (b ∷ c ∷ d ∷ []) a h m = rw (no_backslash tab b (c ∷ d ∷ []) h) (text_tells tab columns fields s (b ∷ c ∷ d ∷ []) a h)
@@ -130,7 +130,7 @@ field_tells tab columns fields s text a few h m =
         columns_are = t.state.columns_are;
         fields_are = ap (λ (n : ℕ). one_more n 65) t.state.fields_are ∙ counted fields 65 few;
       };
-      told = t.told;
+      emitted = t.emitted;
       only = t.only;
     } in
     subst (λ (x : List ℕ). TellsField tab columns (fields + 1) text (let said = shape_said (shape_of x) s x in saying (field_counted said.state) said.pieces)) (sym (trimmed_is s text a.blanks)) is
@@ -141,16 +141,16 @@ place_of_none : (tab : ℕ) (text : List ℕ) → is_plain tab text ≡ true →
 place_of_none tab [] h = refl
 place_of_none tab (b ∷ bs) h =
     let other = none_third (b == code "\n") (b == code "\\") (b == tab) (both_first _ _ h) in
-    ap (λ (t : Bool). if t then Some 0 else behind (place_of tab bs)) other ∙ ap behind (place_of_none tab bs (both_second _ _ h))
+    ap (λ (t : Bool). if t then Some 0 else one_later (place_of tab bs)) other ∙ ap one_later (place_of_none tab bs (both_second _ _ h))
 
 is_itself : (n : ℕ) → (n == n) ≡ true
 is_itself n = grind (arith, nat_tests)
 
 place_of_next : (tab : ℕ) (text rest : List ℕ) → is_plain tab text ≡ true → place_of tab (text ++ tab ∷ rest) ≡ Some (length text)
-place_of_next tab [] rest h = ap (λ (t : Bool). if t then Some 0 else behind (place_of tab rest)) (is_itself tab)
+place_of_next tab [] rest h = ap (λ (t : Bool). if t then Some 0 else one_later (place_of tab rest)) (is_itself tab)
 place_of_next tab (b ∷ bs) rest h =
     let other = none_third (b == code "\n") (b == code "\\") (b == tab) (both_first _ _ h) in
-    ap (λ (t : Bool). if t then Some 0 else behind (place_of tab (bs ++ tab ∷ rest))) other ∙ ap behind (place_of_next tab bs rest (both_second _ _ h))
+    ap (λ (t : Bool). if t then Some 0 else one_later (place_of tab (bs ++ tab ∷ rest))) other ∙ ap one_later (place_of_next tab bs rest (both_second _ _ h))
     ∙ ap Some (let one : 1 + length bs ≡ suc (length bs) = omega arith in one)
 
 pub from_there : (xs ys : List ℕ) → drop (length xs) (xs ++ ys) ≡ ys
@@ -184,60 +184,60 @@ pub record Ends (tab columns : ℕ) (fields : List (List ℕ)) (p : Page) (e : E
   pub state : At tab columns number e.page.state
   pub within : number < columns
   pub limits : e.page.limits ≡ p.limits
-  pub told : (before : List (List ℕ)) (ps : List Piece) → rows_told before (e.pieces ++ ps) ≡ rows_told (before ++ others) ps
+  pub emitted : (before : List (List ℕ)) (ps : List Piece) → rows_emitted before (e.pieces ++ ps) ≡ rows_emitted (before ++ others) ps
   pub only : are_of_rows e.pieces ≡ true
 
 -- where a line is read up to a field
-pub record IsAt (tab columns fields : ℕ) (front line : List ℕ) (p : Page) : Type 0 where
+pub record IsAt (tab columns fields : ℕ) (prefix line : List ℕ) (p : Page) : Type 0 where
   pub state : At tab columns fields p.state
-  pub kept : p.kept ≡ front ++ line
-  pub from : p.from ≡ length front
-  pub start : p.start ≡ length front
+  pub kept : p.kept ≡ prefix ++ line
+  pub from : p.from ≡ length prefix
+  pub start : p.start ≡ length prefix
 
-line_at : (tab columns fields : ℕ) (front line : List ℕ) (p : Page) → IsAt tab columns fields front line p → line_of p ≡ line
-line_at tab columns fields front line p h =
-    ap (λ (n : ℕ). drop n p.kept) h.start ∙ ap (drop (length front)) h.kept ∙ from_there front line
+line_at : (tab columns fields : ℕ) (prefix line : List ℕ) (p : Page) → IsAt tab columns fields prefix line p → line_of p ≡ line
+line_at tab columns fields prefix line p h =
+    ap (λ (n : ℕ). drop n p.kept) h.start ∙ ap (drop (length prefix)) h.kept ∙ from_there prefix line
 
-rest_at : (tab columns fields : ℕ) (front line : List ℕ) (p : Page) → IsAt tab columns fields front line p → rest_of p ≡ line
-rest_at tab columns fields front line p h =
-    ap (λ (n : ℕ). drop n p.kept) h.from ∙ ap (drop (length front)) h.kept ∙ from_there front line
+rest_at : (tab columns fields : ℕ) (prefix line : List ℕ) (p : Page) → IsAt tab columns fields prefix line p → rest_of p ≡ line
+rest_at tab columns fields prefix line p h =
+    ap (λ (n : ℕ). drop n p.kept) h.from ∙ ap (drop (length prefix)) h.kept ∙ from_there prefix line
 
-place_at : (tab columns fields : ℕ) (front line : List ℕ) (p : Page) (found : Option ℕ) → IsAt tab columns fields front line p → place_of tab line ≡ found
+place_at : (tab columns fields : ℕ) (prefix line : List ℕ) (p : Page) (found : Option ℕ) → IsAt tab columns fields prefix line p → place_of tab line ≡ found
     → place_of p.state.options.tab (line_of p) ≡ found
-place_at tab columns fields front line p found h is =
-    ap (λ (n : ℕ). place_of n (line_of p)) h.state.tab_is ∙ ap (place_of tab) (line_at tab columns fields front line p h) ∙ is
+place_at tab columns fields prefix line p found h is =
+    ap (λ (n : ℕ). place_of n (line_of p)) h.state.tab_is ∙ ap (place_of tab) (line_at tab columns fields prefix line p h) ∙ is
 
-field_at : (tab columns fields : ℕ) (front text rest : List ℕ) (p : Page) → IsAt tab columns fields front (text ++ tab ∷ rest) p
+field_at : (tab columns fields : ℕ) (prefix text rest : List ℕ) (p : Page) → IsAt tab columns fields prefix (text ++ tab ∷ rest) p
     → drop p.from (take (p.start + length text) p.kept) ≡ text
-field_at tab columns fields front text rest p h =
+field_at tab columns fields prefix text rest p h =
     ap (λ (n : ℕ). drop n (take (p.start + length text) p.kept)) h.from
-    ∙ ap (λ (n : ℕ). drop (length front) (take (n + length text) p.kept)) h.start
-    ∙ ap (λ (xs : List ℕ). drop (length front) (take (length front + length text) xs)) h.kept
-    ∙ between front text (tab ∷ rest)
+    ∙ ap (λ (n : ℕ). drop (length prefix) (take (n + length text) p.kept)) h.start
+    ∙ ap (λ (xs : List ℕ). drop (length prefix) (take (length prefix + length text) xs)) h.kept
+    ∙ between prefix text (tab ∷ rest)
 
-next_tells : (tab columns fields : ℕ) (front text rest : List ℕ) (p : Page) → IsAt tab columns fields front (text ++ tab ∷ rest) p → fields < 65
+next_tells : (tab columns fields : ℕ) (prefix text rest : List ℕ) (p : Page) → IsAt tab columns fields prefix (text ++ tab ∷ rest) p → fields < 65
     → is_plain tab text ≡ true → is_mark text ≡ false → TellsField tab columns (fields + 1) text (next_said (length text) p)
-next_tells tab columns fields front text rest p h few plain m =
-    subst (λ (x : List ℕ). TellsField tab columns (fields + 1) text (field_said p.state x)) (sym (field_at tab columns fields front text rest p h))
+next_tells tab columns fields prefix text rest p h few plain m =
+    subst (λ (x : List ℕ). TellsField tab columns (fields + 1) text (field_said p.state x)) (sym (field_at tab columns fields prefix text rest p h))
     (field_tells tab columns fields p.state text h.state few plain m)
 
 -- where the next one begins
-at_next : (tab columns fields : ℕ) (front text rest : List ℕ) (p : Page) → IsAt tab columns fields front (text ++ tab ∷ rest) p
+at_next : (tab columns fields : ℕ) (prefix text rest : List ℕ) (p : Page) → IsAt tab columns fields prefix (text ++ tab ∷ rest) p
     → TellsField tab columns (fields + 1) text (next_said (length text) p)
-    → IsAt tab columns (fields + 1) (front ++ (text ++ tab ∷ [])) rest (after_field (length text) p)
-at_next tab columns fields front text rest p h t =
-    let whole = length-append front (text ++ tab ∷ []) in
+    → IsAt tab columns (fields + 1) (prefix ++ (text ++ tab ∷ [])) rest (after_field (length text) p)
+at_next tab columns fields prefix text rest p h t =
+    let whole = length-append prefix (text ++ tab ∷ []) in
     let own = length-append text (tab ∷ []) in
     record {
       state = t.state;
-      kept = h.kept ∙ ap (λ (xs : List ℕ). front ++ xs) (sym (append_assoc text (tab ∷ []) rest)) ∙ sym (append_assoc front (text ++ tab ∷ []) rest);
+      kept = h.kept ∙ ap (λ (xs : List ℕ). prefix ++ xs) (sym (append_assoc text (tab ∷ []) rest)) ∙ sym (append_assoc prefix (text ++ tab ∷ []) rest);
       from = omega (arith, whole, own, h.start);
       start = omega (arith, whole, own, h.start);
     }
 
-ends_here : (tab columns fields n : ℕ) (front text : List ℕ) (p : Page) → IsAt tab columns fields front text p → fields < columns
+ends_here : (tab columns fields n : ℕ) (prefix text : List ℕ) (p : Page) → IsAt tab columns fields prefix text p → fields < columns
     → is_plain tab text ≡ true → is_mark text ≡ false → Ends tab columns (text ∷ []) p (fields_ended n p)
-ends_here tab columns fields n front text p h less plain m = by_count n
+ends_here tab columns fields n prefix text p h less plain m = by_count n
   where
     here : Ends tab columns (text ∷ []) p (effect p [])
     here = record {
@@ -245,13 +245,13 @@ ends_here tab columns fields n front text p h less plain m = by_count n
       last = text;
       number = fields;
       all = refl;
-      rest = rest_at tab columns fields front text p h;
+      rest = rest_at tab columns fields prefix text p h;
       plain = plain;
       text = m;
       state = h.state;
       within = less;
       limits = refl;
-      told = λ before ps. ap (λ (l : List (List ℕ)). rows_told l ps) (sym (append-nil before));
+      emitted = λ before ps. ap (λ (l : List (List ℕ)). rows_emitted l ps) (sym (append-nil before));
       only = refl;
     }
 
@@ -259,15 +259,15 @@ ends_here tab columns fields n front text p h less plain m = by_count n
     by_count zero = here
     by_count (suc k) =
         subst (λ (o : Option ℕ). Ends tab columns (text ∷ []) p (ended_at o (fields_ended k) p))
-        (sym (place_at tab columns fields front text p None h (place_of_none tab text plain))) here
+        (sym (place_at tab columns fields prefix text p None h (place_of_none tab text plain))) here
 
-ends_more : (tab columns fields n : ℕ) (front first rest : List ℕ) (more : List (List ℕ)) (p : Page) → IsAt tab columns fields front (first ++ tab ∷ rest) p
+ends_more : (tab columns fields n : ℕ) (prefix first rest : List ℕ) (more : List (List ℕ)) (p : Page) → IsAt tab columns fields prefix (first ++ tab ∷ rest) p
     → is_plain tab first ≡ true → TellsField tab columns (fields + 1) first (next_said (length first) p)
     → Ends tab columns more (after_field (length first) p) (fields_ended n (after_field (length first) p))
     → Ends tab columns (first ∷ more) p (fields_ended (suc n) p)
-ends_more tab columns fields n front first rest more p h plain t e =
+ends_more tab columns fields n prefix first rest more p h plain t e =
     subst (λ (o : Option ℕ). Ends tab columns (first ∷ more) p (ended_at o (fields_ended n) p))
-    (sym (place_at tab columns fields front (first ++ tab ∷ rest) p (Some (length first)) h (place_of_next tab first rest plain)))
+    (sym (place_at tab columns fields prefix (first ++ tab ∷ rest) p (Some (length first)) h (place_of_next tab first rest plain)))
     (record {
       others = first ∷ e.others;
       last = e.last;
@@ -279,28 +279,28 @@ ends_more tab columns fields n front first rest more p h plain t e =
       state = e.state;
       within = e.within;
       limits = e.limits;
-      told = λ before ps.
+      emitted = λ before ps.
           let more_said = (fields_ended n (after_field (length first) p)).pieces in
-          ap (rows_told before) (append_assoc (next_said (length first) p).pieces more_said ps)
-          ∙ t.told before (more_said ++ ps)
-          ∙ e.told (before ++ first ∷ []) ps
-          ∙ ap (λ (l : List (List ℕ)). rows_told l ps) (append_assoc before (first ∷ []) e.others);
+          ap (rows_emitted before) (append_assoc (next_said (length first) p).pieces more_said ps)
+          ∙ t.emitted before (more_said ++ ps)
+          ∙ e.emitted (before ++ first ∷ []) ps
+          ∙ ap (λ (l : List (List ℕ)). rows_emitted l ps) (append_assoc before (first ∷ []) e.others);
       only = are_both (next_said (length first) p).pieces (fields_ended n (after_field (length first) p)).pieces t.only e.only;
     })
 
-pub fields_end : (tab columns fields n : ℕ) (front first : List ℕ) (others : List (List ℕ)) (p : Page) → IsAt tab columns fields front (text_of tab first others) p
+pub fields_end : (tab columns fields n : ℕ) (prefix first : List ℕ) (others : List (List ℕ)) (p : Page) → IsAt tab columns fields prefix (text_of tab first others) p
     → fields + length others < columns → columns ≤ 64 → n ≡ columns - fields → are_fields tab first others ≡ true
     → Ends tab columns (first ∷ others) p (fields_ended n p)
-fields_end tab columns fields n front first [] p h less few count are =
-    ends_here tab columns fields n front first p h (omega (arith, less)) (both_first _ _ are) (is_not _ (both_second _ _ are))
-fields_end tab columns fields zero front first (next ∷ others) p h less few count are = absurd (omega (arith, less, count))
-fields_end tab columns fields (suc n) front first (next ∷ others) p h less few count are =
+fields_end tab columns fields n prefix first [] p h less few count are =
+    ends_here tab columns fields n prefix first p h (omega (arith, less)) (both_first _ _ are) (is_not _ (both_second _ _ are))
+fields_end tab columns fields zero prefix first (next ∷ others) p h less few count are = absurd (omega (arith, less, count))
+fields_end tab columns fields (suc n) prefix first (next ∷ others) p h less few count are =
     let plain : is_plain tab first ≡ true =
     both_first (is_plain tab first) (not (is_mark first)) (both_first (is_plain tab first && not (is_mark first)) (are_fields tab next others) are) in
     let text : is_mark first ≡ false =
     is_not (is_mark first) (both_second (is_plain tab first) (not (is_mark first)) (both_first (is_plain tab first && not (is_mark first)) (are_fields tab next others) are)) in
     let rest = text_of tab next others in
-    let t = next_tells tab columns fields front first rest p h (omega (arith, less, few)) plain text in
-    ends_more tab columns fields n front first rest (next ∷ others) p h plain t
-    (fields_end tab columns (fields + 1) n (front ++ (first ++ tab ∷ [])) next others (after_field (length first) p)
-    (at_next tab columns fields front first rest p h t) (omega (arith, less)) few (omega (arith, less, count)) (both_second _ _ are))
+    let t = next_tells tab columns fields prefix first rest p h (omega (arith, less, few)) plain text in
+    ends_more tab columns fields n prefix first rest (next ∷ others) p h plain t
+    (fields_end tab columns (fields + 1) n (prefix ++ (first ++ tab ∷ [])) next others (after_field (length first) p)
+    (at_next tab columns fields prefix first rest p h t) (omega (arith, less)) few (omega (arith, less, count)) (both_second _ _ are))

@@ -8,10 +8,10 @@ use Rattle.tbl_reader.specs.declared.state.Mode.TheVariants as modes
 use Rattle.tbl_reader.specs.declared.state.State.{State}
 use Rattle.tbl_reader.specs.Commands.{is_command}
 use Rattle.tbl_reader.specs.Ending.{finished, first_page}
-use Rattle.tbl_reader.specs.Fields.{behind, continues, is_request, place_of, shape_of}
+use Rattle.tbl_reader.specs.Fields.{one_later, continues, is_request, place_of, shape_of}
 use Rattle.tbl_reader.specs.Pages.{Page, Effect, effect, and_then, line_counted, with_state, rest_of}
 use Rattle.tbl_reader.specs.Reading.{fed, line_ended}
-use Rattle.tbl_reader.specs.RowLines.{Said, all_ended, field_said, fields_ended, last_ended, last_said, line_between, line_cleaned, line_continued, rest_said, rest_told, row_line}
+use Rattle.tbl_reader.specs.RowLines.{Said, all_ended, field_said, fields_ended, last_ended, last_said, line_between, line_cleaned, line_continued, rest_said, rest_emitted, row_line}
 use Rattle.tbl_reader.specs.States.{is_beyond}
 use Rattle.tbl_reader.specs.Telling.{Piece}
 use Rattle.tbl_reader.specs.Whole.{is_line}
@@ -19,7 +19,7 @@ use Rattle.tbl_reader.proofs.Cleaning.{none_cleaned, none_goes_on}
 use Rattle.tbl_reader.proofs.Keeping.{fed_keeps}
 use Rattle.tbl_reader.proofs.Runs.{fed_append}
 use Rattle.tbl_reader.proofs.Whole.{lines_are_read}
-use Rattle.tbl_laws.specs.Rows.{AreRows, IsBetweenRows, IsRow, Row, RowsAreTold, are_fields, are_of_rows, begins_row, fields_of_all, is_plain, rows_told, separates, text_of, text_of_all}
+use Rattle.tbl_laws.specs.Rows.{AreRows, IsBetweenRows, IsRow, Row, RowsAreEmitted, are_fields, are_of_rows, begins_row, fields_of_all, is_plain, rows_emitted, separates, text_of, text_of_all}
 use Rattle.tbl_laws.proofs.Rows.{Ends, IsAt, TellsField, are_both, both_first, both_second, field_tells, fields_end, none_first, none_second, is_not, rest_is, trimmed_is}
 
 -- ---- the bytes of a line
@@ -39,7 +39,7 @@ record Solid (line : List ℕ) : Type 0 where
 
 solid_byte : (b : ℕ) (bs : List ℕ) → (b == code "\\") ≡ false → (b == code "\n") ≡ false → Solid bs → Solid (b ∷ bs)
 solid_byte b bs e f s = record {
-  backslash = ap (λ (t : Bool). if t then Some 0 else behind (place_of (code "\\") bs)) e ∙ ap behind s.backslash;
+  backslash = ap (λ (t : Bool). if t then Some 0 else one_later (place_of (code "\\") bs)) e ∙ ap one_later s.backslash;
   newline = ap (λ (t : Bool). not t && is_line bs) f ∙ s.newline;
 }
 
@@ -79,7 +79,7 @@ no_request (a ∷ b ∷ rest) h = rw (is_not (a == code ".") h) refl
 pub record TellsRow (tab columns : ℕ) (fields : List (List ℕ)) (p : Page) (e : Effect) : Type 0 where
   pub page : IsBetweenRows tab columns e.page
   pub limits : e.page.limits ≡ p.limits
-  pub told : (ps : List Piece) → rows_told [] (e.pieces ++ ps) ≡ fields ∷ rows_told [] ps
+  pub emitted : (ps : List Piece) → rows_emitted [] (e.pieces ++ ps) ≡ fields ∷ rows_emitted [] ps
   pub only : are_of_rows e.pieces ≡ true
 
 not_beyond : (columns fields : ℕ) (s : State) → s.formats.columns ≡ columns → s.fields ≡ fields → fields < columns → is_beyond s ≡ false
@@ -111,19 +111,19 @@ row_tells tab columns fields p e separated few h =
         few = few;
       };
       limits = h.limits;
-      told = λ ps. told_row t ps;
+      emitted = λ ps. emitted_row t ps;
       only = are_both e.pieces (last_ended e.page).pieces h.only (are_both (last_said e.page.state (rest_of e.page)).pieces _ t.only refl);
     }
   where
-    told_row : TellsField tab columns (h.number + 1) h.last (last_said e.page.state (rest_of e.page)) → (ps : List Piece)
-        → rows_told [] ((and_then e last_ended).pieces ++ ps) ≡ fields ∷ rows_told [] ps
-    told_row t ps =
+    emitted_row : TellsField tab columns (h.number + 1) h.last (last_said e.page.state (rest_of e.page)) → (ps : List Piece)
+        → rows_emitted [] ((and_then e last_ended).pieces ++ ps) ≡ fields ∷ rows_emitted [] ps
+    emitted_row t ps =
         let said = (last_said e.page.state (rest_of e.page)).pieces in
-        ap (rows_told []) (append_assoc e.pieces (last_ended e.page).pieces ps)
-        ∙ h.told [] ((last_ended e.page).pieces ++ ps)
-        ∙ ap (rows_told h.others) (append_assoc said _ ps)
-        ∙ t.told h.others _
-        ∙ ap (λ (l : List (List ℕ)). l ∷ rows_told [] ps) h.all
+        ap (rows_emitted []) (append_assoc e.pieces (last_ended e.page).pieces ps)
+        ∙ h.emitted [] ((last_ended e.page).pieces ++ ps)
+        ∙ ap (rows_emitted h.others) (append_assoc said _ ps)
+        ∙ t.emitted h.others _
+        ∙ ap (λ (l : List (List ℕ)). l ∷ rows_emitted [] ps) h.all
 
 -- ---- a line between rows is a row
 
@@ -153,14 +153,14 @@ line_is_row p line h =
     rw (no_command (code "E") line h) (rw (no_command (code "&") line h) (rw (no_request line h) refl))
 
 row_of_line : (p : Page) (line : List ℕ) → Solid line
-    → row_line (with_line p line) ≡ and_then (fields_ended (p.state.formats.columns - 0) (with_line p line)) rest_told
+    → row_line (with_line p line) ≡ and_then (fields_ended (p.state.formats.columns - 0) (with_line p line)) rest_emitted
 unfolding with_line
 row_of_line p line s =
     ap (λ (q : Page). and_then (all_ended q) (line_continued (continues line))) (cleaned_is p line s)
     ∙ ap (λ (t : Bool). and_then (all_ended (with_line p line)) (line_continued t)) (sym (none_goes_on line s.backslash))
 
 -- after the fields before it the last one ends, and the row
-rest_ends : (tab columns : ℕ) (fields : List (List ℕ)) (p : Page) (e : Effect) → Ends tab columns fields p e → and_then e rest_told ≡ and_then e last_ended
+rest_ends : (tab columns : ℕ) (fields : List (List ℕ)) (p : Page) (e : Effect) → Ends tab columns fields p e → and_then e rest_emitted ≡ and_then e last_ended
 rest_ends tab columns fields p e h =
     ap (λ (x : Effect). effect x.page (e.pieces ++ x.pieces))
     (ap (λ (text : List ℕ). rest_said (shape_of text) e.page) (trimmed_is e.page.state (rest_of e.page) h.state.blanks ∙ h.rest)
@@ -203,23 +203,23 @@ line_tells l tab columns r p h same is =
         few = h.few;
       };
       limits = t.limits;
-      told = λ ps. ap (λ (xs : List Piece). rows_told [] (xs ++ ps)) (append-nil (and_then e last_ended).pieces) ∙ t.told ps;
+      emitted = λ ps. ap (λ (xs : List Piece). rows_emitted [] (xs ++ ps)) (append-nil (and_then e last_ended).pieces) ∙ t.emitted ps;
       only = are_both (and_then e last_ended).pieces [] t.only refl;
     })
 
 -- ---- all rows
 
 rows_tell : (l : Limits) (tab columns : ℕ) (rows : List Row) (p : Page) → IsBetweenRows tab columns p → p.limits ≡ l → AreRows l tab columns rows
-    → (ps : List Piece) → rows_told [] ((fed (text_of_all tab rows) p).pieces ++ []) ≡ fields_of_all rows
+    → (ps : List Piece) → rows_emitted [] ((fed (text_of_all tab rows) p).pieces ++ []) ≡ fields_of_all rows
 rows_tell l tab columns [] p h same are ps = refl
 rows_tell l tab columns (r ∷ rs) p h same are ps =
     let line = text_of tab r.first r.others ++ code "\n" ∷ [] in
     let t = line_tells l tab columns r p h same are.0 in
     let e = fed line p in
     let more = fed (text_of_all tab rs) e.page in
-    ap (λ (x : Effect). rows_told [] (x.pieces ++ [])) (fed_append line (text_of_all tab rs) p)
-    ∙ ap (rows_told []) (append_assoc e.pieces more.pieces [])
-    ∙ t.told (more.pieces ++ [])
+    ap (λ (x : Effect). rows_emitted [] (x.pieces ++ [])) (fed_append line (text_of_all tab rs) p)
+    ∙ ap (rows_emitted []) (append_assoc e.pieces more.pieces [])
+    ∙ t.emitted (more.pieces ++ [])
     ∙ ap (λ (rows : List (List (List ℕ))). (r.first ∷ r.others) ∷ rows) (rows_tell l tab columns rs e.page t.page (t.limits ∙ same) are.1 ps)
 
 rows_only : (l : Limits) (tab columns : ℕ) (rows : List Row) (p : Page) → IsBetweenRows tab columns p → p.limits ≡ l → AreRows l tab columns rows
@@ -232,8 +232,8 @@ rows_only l tab columns (r ∷ rs) p h same are =
     ap (λ (x : Effect). are_of_rows x.pieces) (fed_append line (text_of_all tab rs) p)
     ∙ are_both e.pieces (fed (text_of_all tab rs) e.page).pieces t.only (rows_only l tab columns rs e.page t.page (t.limits ∙ same) are.1)
 
-pub rows_are_told : RowsAreTold
-rows_are_told l cells tab columns before rows rest h are =
+pub rows_are_emitted : RowsAreEmitted
+rows_are_emitted l cells tab columns before rows rest h are =
     let p = (fed before (first_page l cells)).page in
     let ps = (fed before (first_page l cells)).pieces in
     let e = fed (text_of_all tab rows) p in
@@ -241,12 +241,12 @@ rows_are_told l cells tab columns before rows rest h are =
     let ends = (finished r.page).pieces in
     let keeps = fed_keeps before (first_page l cells) (omega arith) in
     record {
-      told = e.pieces;
+      emitted = e.pieces;
       after = r.pieces ++ ends;
       said_is =
           ap (λ (x : Effect). (and_then x finished).pieces) (fed_append (before ++ text_of_all tab rows) rest (first_page l cells))
           ∙ ap (λ (x : Effect). (and_then (and_then x (fed rest)) finished).pieces) (fed_append before (text_of_all tab rows) (first_page l cells))
           ∙ append_assoc (ps ++ e.pieces) r.pieces ends;
-      rows_are = ap (rows_told []) (sym (append-nil e.pieces)) ∙ rows_tell l tab columns rows p h keeps.limits are [];
+      rows_are = ap (rows_emitted []) (sym (append-nil e.pieces)) ∙ rows_tell l tab columns rows p h keeps.limits are [];
       only = rows_only l tab columns rows p h keeps.limits are;
     }

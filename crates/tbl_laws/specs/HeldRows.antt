@@ -10,7 +10,7 @@ use Rattle.tbl_table.specs.Held.{text_of}
 use Rattle.tbl_setting.specs.declared.setting.Setting.{Setting}
 use Rattle.tbl_setting.specs.Held.{table}
 use Rattle.tbl_setting.specs.Setting.{set}
-use Rattle.tbl_laws.specs.Rows.{are_of_rows, rows_told}
+use Rattle.tbl_laws.specs.Rows.{are_of_rows, rows_emitted}
 
 -- ---- a table that holds rows
 
@@ -41,11 +41,11 @@ pub record HoldsRows (t : Table) (rows : List (List (List ℕ))) (next : List (L
 -- ---- room: for these pieces, so that no part of the table goes out before its end
 
 abbrev pub bytes_in : Tell → List ℕ → ℕ
-bytes_in (tells.Field front) text = length text
+bytes_in (tells.Field prefix) text = length text
 bytes_in tell text = 0
 
 abbrev pub fields_in : Tell → ℕ
-fields_in (tells.Field front) = 1
+fields_in (tells.Field prefix) = 1
 fields_in (tells.Mark mark) = 1
 fields_in tell = 0
 
@@ -81,4 +81,4 @@ abbrev pub RowsAreHeld : Type 0
 RowsAreHeld =
     (s : Setting) (ps : List Piece) → (table s).fields.items ≡ [] → (table s).rows.items ≡ [] → (table s).row_from ≡ 0
     → HasRoom (table s) ps → are_of_rows ps ≡ true
-    → (next : List (List ℕ)) × HoldsRows (table (set ps s)) (rows_told [] ps) next
+    → (next : List (List ℕ)) × HoldsRows (table (set ps s)) (rows_emitted [] ps) next

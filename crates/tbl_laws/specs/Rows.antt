@@ -85,7 +85,7 @@ pub record IsBetweenRows (tab columns : ℕ) (p : Page) : Type 0 where
 -- ---- the rows that are told, the first of them after these fields of it
 
 abbrev pub field_in : Tell → List ℕ → List (List ℕ)
-field_in (tells.Field front) text = text ∷ []
+field_in (tells.Field prefix) text = text ∷ []
 field_in (tells.Mark marks.Nothing) text = [] ∷ []
 field_in tell text = []
 
@@ -101,15 +101,15 @@ abbrev pub left_after : Bool → List (List ℕ) → List (List ℕ)
 left_after true fields = []
 left_after false fields = fields
 
-abbrev pub rows_told : List (List ℕ) → List Piece → List (List (List ℕ))
-rows_told fields [] = []
-rows_told fields (p ∷ ps) =
-    row_if (is_row p.tell) fields (rows_told (left_after (is_row p.tell) (fields ++ field_in p.tell p.text)) ps)
+abbrev pub rows_emitted : List (List ℕ) → List Piece → List (List (List ℕ))
+rows_emitted fields [] = []
+rows_emitted fields (p ∷ ps) =
+    row_if (is_row p.tell) fields (rows_emitted (left_after (is_row p.tell) (fields ++ field_in p.tell p.text)) ps)
 
 -- nothing else is told but what may be wrong with them
 
 abbrev pub is_of_row : Tell → List ℕ → Bool
-is_of_row (tells.Field front) text = not (joins text)
+is_of_row (tells.Field prefix) text = not (joins text)
 is_of_row (tells.Mark marks.Nothing) text = true
 is_of_row (tells.Wrong complaint) text = true
 is_of_row tells.Row text = true
@@ -127,14 +127,14 @@ fields_of_all (r ∷ rs) = (r.first ∷ r.others) ∷ fields_of_all rs
 
 -- what is said of the rows, between what is said before and after them
 pub record TellsRows (before said : List Piece) (rows : List Row) : Type 0 where
-  pub told : List Piece
+  pub emitted : List Piece
   pub after : List Piece
-  pub said_is : said ≡ before ++ told ++ after
-  pub rows_are : rows_told [] told ≡ fields_of_all rows
-  pub only : are_of_rows told ≡ true
+  pub said_is : said ≡ before ++ emitted ++ after
+  pub rows_are : rows_emitted [] emitted ≡ fields_of_all rows
+  pub only : are_of_rows emitted ≡ true
 
-abbrev pub RowsAreTold : Type 0
-RowsAreTold =
+abbrev pub RowsAreEmitted : Type 0
+RowsAreEmitted =
     (l : Limits) (cells tab columns : ℕ) (before : List ℕ) (rows : List Row) (rest : List ℕ)
     → IsBetweenRows tab columns (fed before (first_page l cells)).page → AreRows l tab columns rows
     → TellsRows (fed before (first_page l cells)).pieces (page_said l cells (before ++ text_of_all tab rows ++ rest)) rows
@@ -175,8 +175,8 @@ OptionsAreRead =
 
 -- ---- so the rows of a table are told that begins where a page is outside of tables
 
-abbrev pub TablesAreTold : Type 0
-TablesAreTold =
+abbrev pub TablesAreEmitted : Type 0
+TablesAreEmitted =
     (l : Limits) (cells : ℕ) (before formats : List ℕ) (rows : List Row) (rest : List ℕ)
     → IsOutside (fed before (first_page l cells)).page → are_columns formats ≡ true → 0 < columns_in formats
     → columns_in formats ≤ 64 → length formats < l.formats → AreRows l (code "\t") (columns_in formats) rows

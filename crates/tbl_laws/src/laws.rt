@@ -3,7 +3,7 @@ ghost use Rattle.tbl_laws.specs.Columns.{EqualAtLast, FieldsFitAtLast, LeastFits
 ghost use Rattle.tbl_laws.specs.HeldRows.{RowsAreHeld};
 ghost use Rattle.tbl_laws.specs.Lines.{FieldsGoOut};
 ghost use Rattle.tbl_laws.specs.OutsideText.{FirstTextStays, LastTextStays, PagesStay, TablesEnd, TextBetweenStays};
-ghost use Rattle.tbl_laws.specs.Rows.{FormatsAreRead, OptionsAreRead, RowsAreTold, TablesAreTold};
+ghost use Rattle.tbl_laws.specs.Rows.{FormatsAreRead, OptionsAreRead, RowsAreEmitted, TablesAreEmitted};
 ghost use Rattle.tbl_laws.specs.Texts.{BarsHaveTheirTexts, EdgesHaveNone, RowsHaveTheirTexts, RulesHaveTheirTexts, TextsGoOut};
 
 /// Text outside of tables goes out as it came: a page in which no line begins a table; what stands before the first such line; and
@@ -31,11 +31,11 @@ pub fn text_outside_stays()
 /// line that begins with a point or is longer than what is kept) each field is told once, in the order of rows and
 /// columns, with its bytes, wherever a page stands between the rows of a table without `nospaces`; so it stands after
 /// `.TS`, a line of options or none, and a line of formats of 1 to 64 letters `l`, `r`, `c`, blanks and a point.
-pub fn rows_are_told()
+pub fn rows_are_emitted()
     ensures formats { FormatsAreRead }
     ensures options { OptionsAreRead }
-    ensures rows { RowsAreTold }
-    ensures tables { TablesAreTold }
+    ensures rows { RowsAreEmitted }
+    ensures tables { TablesAreEmitted }
 {}
 
 /// Who sets a table holds such rows as they were told: the text of each field once, in the order of rows and columns, and each row
@@ -80,7 +80,7 @@ pub fn each_text_once()
 /// From bytes to bytes: a page of text, a table and text goes out as the text, a line for each row, and the text. On the line of a row
 /// stand its fields, each once, in the order of columns, with blanks before each; nothing else stands there, but `\&` before a line
 /// that would begin with a blank, or as a request does. Four requests stand before the lines, and two after them. So it is of a table
-/// without options, with one line of columns of `l`, `r` and `c`, whose rows are as `rows_are_told` has them and have no control
+/// without options, with one line of columns of `l`, `r` and `c`, whose rows are as `rows_are_emitted` has them and have no control
 /// characters, where it is held whole, and is not narrowed: where tables are not to be, where the page is no manual page, or where the
 /// table is no wider than the line.
 ///

@@ -2,11 +2,11 @@
 use Rattle.std.proofs.Common.{◌≡◌, ℕ, zero, suc, ◌+◌, ◌-◌, ◌<◌, List, [], ◌∷◌, ◌++◌, length, get_or, take, drop, Bool, true, false, ◌==◌, ◌&&◌, not, Option, None, Some, if◌then◌else◌, refl, sym, ◌∙◌, ap, arith}
 use Prim.Native.Char.{code}
 use Rattle.std.proofs.lemmas.List.{take-append-drop, take_all, drop_more, length-drop}
-use Rattle.tbl_reader.specs.Fields.{before_comment, behind, cleaned, comment_in, continues, cut, has_comment, is_comment, open_after, paired, place_of}
+use Rattle.tbl_reader.specs.Fields.{before_comment, one_later, cleaned, comment_in, continues, cut, has_comment, is_comment, open_after, paired, place_of}
 use Rattle.tbl_reader.proofs.Finding.{moved}
 
 -- a line without a backslash stays
-no_first : (e : Bool) (r : Option ℕ) → (if e then Some 0 else behind r) ≡ None → (e ≡ false) × (r ≡ None)
+no_first : (e : Bool) (r : Option ℕ) → (if e then Some 0 else one_later r) ≡ None → (e ≡ false) × (r ≡ None)
 no_first true r none = absurd (cc)
 no_first false None none = (refl, refl)
 no_first false (Some n) none = absurd (cc)
@@ -28,7 +28,7 @@ uncommented : (xs : List ℕ) → place_of (code "\\") xs ≡ None → comment_i
 uncommented [] none = refl
 uncommented (b ∷ bs) none =
     let first = no_first (b == code "\\") (place_of (code "\\") bs) none in
-    ap (λ (e : Bool). if e then Some 0 else behind (comment_in bs)) (no_comment b bs first.0) ∙ ap behind (uncommented bs first.1)
+    ap (λ (e : Bool). if e then Some 0 else one_later (comment_in bs)) (no_comment b bs first.0) ∙ ap one_later (uncommented bs first.1)
 
 same_cleaned : (xs : List ℕ) → place_of (code "\\") xs ≡ None → xs ≡ cleaned xs
 same_cleaned xs none =
@@ -43,10 +43,10 @@ pub none_goes_on : (xs : List ℕ) → place_of (code "\\") xs ≡ None → fals
 none_goes_on xs none = sym (ap (λ (e : Bool). e && not (has_comment (paired false xs))) (unpaired xs none).1)
 
 -- what stands before the line stays
-front_stays : (start : ℕ) (xs : List ℕ) → take start (take start xs ++ paired false (drop start xs)) ≡ take start xs
-front_stays zero xs = refl
-front_stays (suc n) [] = refl
-front_stays (suc n) (x ∷ xs) = ap (λ (ys : List ℕ). x ∷ ys) (front_stays n xs)
+prefix_stays : (start : ℕ) (xs : List ℕ) → take start (take start xs ++ paired false (drop start xs)) ≡ take start xs
+prefix_stays zero xs = refl
+prefix_stays (suc n) [] = refl
+prefix_stays (suc n) (x ∷ xs) = ap (λ (ys : List ℕ). x ∷ ys) (prefix_stays n xs)
 
 line_after : (start : ℕ) (xs : List ℕ) → drop start (take start xs ++ paired false (drop start xs)) ≡ paired false (drop start xs)
 line_after zero xs = refl
@@ -57,7 +57,7 @@ pub cleaned_then : (start : ℕ) (old pairs now : List ℕ) → pairs ≡ take s
     → now ≡ take start pairs ++ before_comment (drop start pairs) → now ≡ take start old ++ cleaned (drop start old)
 cleaned_then start old pairs now p n =
     n ∙ ap (λ (xs : List ℕ). take start xs ++ before_comment (drop start xs)) p
-    ∙ ap (λ (xs : List ℕ). xs ++ before_comment (drop start (take start old ++ paired false (drop start old)))) (front_stays start old)
+    ∙ ap (λ (xs : List ℕ). xs ++ before_comment (drop start (take start old ++ paired false (drop start old)))) (prefix_stays start old)
     ∙ ap (λ (xs : List ℕ). take start old ++ before_comment xs) (line_after start old)
 
 pub goes_then : (start : ℕ) (old pairs : List ℕ) (alone cut : Bool) → pairs ≡ take start old ++ paired false (drop start old)
@@ -69,11 +69,11 @@ goes_then start old pairs alone cut p a c =
 
 -- ---- a comment is found
 
-moved_more : (at : ℕ) (o : Option ℕ) → moved at (behind o) ≡ moved (at + 1) o
+moved_more : (at : ℕ) (o : Option ℕ) → moved at (one_later o) ≡ moved (at + 1) o
 moved_more at None = refl
 moved_more at (Some n) = let e : at + (1 + n) ≡ at + 1 + n = omega arith in ap (λ (m : ℕ). Some m) e
 
-moved_if : (at : ℕ) (e : Bool) (o : Option ℕ) → moved at (if e then Some 0 else behind o) ≡ (if e then Some at else moved (at + 1) o)
+moved_if : (at : ℕ) (e : Bool) (o : Option ℕ) → moved at (if e then Some 0 else one_later o) ≡ (if e then Some at else moved (at + 1) o)
 moved_if at true o = let e : at + 0 ≡ at = omega arith in ap (λ (m : ℕ). Some m) e
 moved_if at false o = moved_more at o
 

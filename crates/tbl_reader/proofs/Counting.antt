@@ -20,7 +20,7 @@ use Rattle.tbl_reader.specs.declared.telling.Tell.TheVariants as tells
 use Rattle.tbl_reader.specs.BlockLines.{ends_block, goes_on, field_at, block_left, block_ended, block_line, block_line_begun, block_overflown, block_said, unset_reported}
 use Rattle.tbl_reader.specs.Commands.{begins_command, is_command}
 use Rattle.tbl_reader.specs.Ending.{is_begin, is_open_in, closed_in, closed, line_closed, finished, first_page, page_said}
-use Rattle.tbl_reader.specs.Fields.{shape_of, is_request, place_of, cleaned, continues, behind}
+use Rattle.tbl_reader.specs.Fields.{shape_of, is_request, place_of, cleaned, continues, one_later}
 use Rattle.tbl_reader.specs.Formats.{read as read_format}
 use Rattle.tbl_reader.specs.HeadLines as heads
 use Rattle.tbl_reader.specs.Heads.{options_end, is_dotted}
@@ -29,7 +29,7 @@ use Rattle.tbl_reader.specs.Options.{options_of}
 use Rattle.tbl_reader.specs.Outside.{passed, line_passed, plain_passed, plain_line_passed, given_up}
 use Rattle.tbl_reader.specs.Pages.{Page, Effect, effect, and_then, with_state, line_counted, forgotten, rest_of, line_of, wrong}
 use Rattle.tbl_reader.specs.Reading.{read, read_in, fed, kept, limit_of, with_kept, block_goes_on, kept_more, line_ended, line_ended_in, overflown, overflown_in}
-use Rattle.tbl_reader.specs.RowLines.{Said, saying, trimmed, solid, are_empty, text_said, shape_said, field_said, last_said, widths_wrong, ended_at, fields_ended, all_ended, line_cleaned, last_ended, rest_said, rest_told, line_continued, row_line, row_so_far, line_between, long_end, row_overflown}
+use Rattle.tbl_reader.specs.RowLines.{Said, saying, trimmed, solid, are_empty, text_said, shape_said, field_said, last_said, widths_wrong, ended_at, fields_ended, all_ended, line_cleaned, last_ended, rest_said, rest_emitted, line_continued, row_line, row_so_far, line_between, long_end, row_overflown}
 use Rattle.tbl_reader.specs.States as states
 use Rattle.tbl_reader.specs.Telling.{Piece, piece, each}
 use Rattle.tbl_reader.proofs.Steady.{choose, cleaned_shorter}
@@ -110,7 +110,7 @@ last_few s text =
 some_is : (x y : ℕ) → Some x ≡ Some y → x ≡ y
 some_is x y e = cc
 
-place_step : (here : Bool) (place : Option ℕ) (n len : ℕ) → ((k : ℕ) → place ≡ Some k → k < n) → (if here then Some 0 else behind place) ≡ Some len → len < suc n
+place_step : (here : Bool) (place : Option ℕ) (n len : ℕ) → ((k : ℕ) → place ≡ Some k → k < n) → (if here then Some 0 else one_later place) ≡ Some len → len < suc n
 place_step true place n len before e = let x = some_is 0 len e in omega (arith, x)
 place_step false None n len before e = absurd (let no : None ≡ Some len = e in cc)
 place_step false (Some k) n len before e = let x = some_is (1 + k) len e in let y = before k refl in omega (arith, x, y)
@@ -161,7 +161,7 @@ continued_light : (alone : Bool) (p : Page) → Light (row_weight p + 4) (line_c
 continued_light alone p =
     choose (Light (row_weight p + 4)) alone _ _
     (record { few = (let cut = length-take (length p.kept - 1) p.kept in omega (arith, cut)) })
-    (more 4 (row_weight p + 4) (rest_told p) (omega arith) (rest_light _ p))
+    (more 4 (row_weight p + 4) (rest_emitted p) (omega arith) (rest_light _ p))
 
 row_light : (p : Page) → Light (row_weight p + 4) (row_line p)
 row_light p =
@@ -169,13 +169,13 @@ row_light p =
     let r = all_ended q in
     let alone = continues (line_of p) in
     let whole = length-append (take p.start p.kept) (cleaned (line_of p)) in
-    let front = length-take p.start p.kept in
+    let prefix = length-take p.start p.kept in
     let back = length-drop p.start p.kept in
     let shorter = cleaned_shorter (line_of p) in
     let x = fields_few (q.state.formats.columns - q.state.fields) q in
     let y = (continued_light alone r.page).few in
     let z = length-append r.pieces (line_continued alone r.page).pieces in
-    record { few = omega (arith, whole, front, back, shorter, x, y, z) }
+    record { few = omega (arith, whole, prefix, back, shorter, x, y, z) }
 
 between_light : (p : Page) → Light (row_weight p + 4) (line_between p)
 between_light p =

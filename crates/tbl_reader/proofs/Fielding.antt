@@ -53,33 +53,33 @@ one_more len p e =
     ∙ ap (λ (ps : List Piece). effect (after_field len p) ps) (append-nil (next_said len p).pieces)
 
 -- one field more ends
-pub record Told {A S : Type 0} (shows : A → S → Type 0) (hears : Piece → S → S) (k : ℕ) (p q : Page) (a b : A) : Type 0 where
+pub record FieldsEmitted {A S : Type 0} (shows : A → S → Type 0) (hears : Piece → S → S) (k : ℕ) (p q : Page) (a b : A) : Type 0 where
   pub page : q ≡ (fields_ended k p).page
-  pub told : Tells shows hears (fields_ended k p).pieces a b
+  pub emitted : Tells shows hears (fields_ended k p).pieces a b
 
-pub told_first : {A S : Type 0} (shows : A → S → Type 0) (hears : Piece → S → S) (p : Page) (a : A) → Told shows hears 0 p p a a
-told_first shows hears p a = record { page = refl; told = λ s h. h }
+pub emitted_first : {A S : Type 0} (shows : A → S → Type 0) (hears : Piece → S → S) (p : Page) (a : A) → FieldsEmitted shows hears 0 p p a a
+emitted_first shows hears p a = record { page = refl; emitted = λ s h. h }
 
-pub told_more : {A S : Type 0} (shows : A → S → Type 0) (hears : Piece → S → S) (k len : ℕ) (p q r : Page) (a b c : A)
-    → Told shows hears k p q a b → next_end q ≡ Some len → r ≡ after_field len q → Tells shows hears (next_said len q).pieces b c
-    → Told shows hears (k + 1) p r a c
-told_more shows hears k len p q r a b c before e page told =
+pub emitted_more : {A S : Type 0} (shows : A → S → Type 0) (hears : Piece → S → S) (k len : ℕ) (p q r : Page) (a b c : A)
+    → FieldsEmitted shows hears k p q a b → next_end q ≡ Some len → r ≡ after_field len q → Tells shows hears (next_said len q).pieces b c
+    → FieldsEmitted shows hears (k + 1) p r a c
+emitted_more shows hears k len p q r a b c before e page emitted =
     let f = fields_ended k p in
     let one = one_more len q e in
-    let here : Tells shows hears (fields_ended 1 q).pieces b c = subst (λ (x : Effect). Tells shows hears x.pieces b c) (sym one) told in
+    let here : Tells shows hears (fields_ended 1 q).pieces b c = subst (λ (x : Effect). Tells shows hears x.pieces b c) (sym one) emitted in
     let there : r ≡ (fields_ended 1 q).page = page ∙ ap (λ (x : Effect). x.page) (sym one) in
     let both = sym (split k 1 p) in
     record {
       page = there ∙ ap (λ (x : Page). (fields_ended 1 x).page) before.page ∙ ap (λ (x : Effect). x.page) both;
-      told = subst (λ (x : Effect). Tells shows hears x.pieces a c) both (tells_then shows hears f (fields_ended 1) q a b c before.page before.told here);
+      emitted = subst (λ (x : Effect). Tells shows hears x.pieces a c) both (tells_then shows hears f (fields_ended 1) q a b c before.page before.emitted here);
     }
 
 -- all have ended
-pub told_all : {A S : Type 0} (shows : A → S → Type 0) (hears : Piece → S → S) (k n : ℕ) (p q : Page) (a b : A)
-    → Told shows hears k p q a b → k ≤ n → next_end q ≡ None → Told shows hears n p q a b
-told_all shows hears k n p q a b t few e =
+pub emitted_all : {A S : Type 0} (shows : A → S → Type 0) (hears : Piece → S → S) (k n : ℕ) (p q : Page) (a b : A)
+    → FieldsEmitted shows hears k p q a b → k ≤ n → next_end q ≡ None → FieldsEmitted shows hears n p q a b
+emitted_all shows hears k n p q a b t few e =
     let same = sym (ended_here k n p q few t.page e) in
     record {
       page = t.page ∙ ap (λ (x : Effect). x.page) same;
-      told = subst (λ (x : Effect). Tells shows hears x.pieces a b) same t.told;
+      emitted = subst (λ (x : Effect). Tells shows hears x.pieces a b) same t.emitted;
     }

@@ -27,7 +27,7 @@ goes_plain b s p false e fits = rw e (record { fits = fits; lines = omega arith 
 pub took_plain : {A S : Type 0} (shows : A → S → Type 0) (hears : Piece → S → S) (bytes : List ℕ) (b : ℕ) (s : Start) (p q : Page) (old new : A)
     → p.state.mode ≡ modes.Plain s → 0 < length bytes → b ≡ get_or bytes 0 0 → Fits p → q ≡ (plain_passed b s p).page
     → Tells shows hears (plain_passed b s p).pieces old new → Took shows hears bytes p q old new 1
-took_plain shows hears bytes b s p q old new m some first fits page told =
+took_plain shows hears bytes b s p q old new m some first fits page emitted =
     let here : read b p ≡ plain_passed b s p = rw m refl in
     let all : fed (take 1 bytes) p ≡ plain_passed b s p =
     ap (λ (xs : List ℕ). fed xs p) (first_byte bytes b some first) ∙ alone (read b p) ∙ here in
@@ -36,7 +36,7 @@ took_plain shows hears bytes b s p q old new m some first fits page told =
       some = omega arith;
       within = omega (arith, some);
       page = page ∙ ap (λ (x : Effect). x.page) (sym all);
-      told = subst (λ (x : Effect). Tells shows hears x.pieces old new) (sym all) told;
+      emitted = subst (λ (x : Effect). Tells shows hears x.pieces old new) (sym all) emitted;
       fits = rw page goes.fits;
       lines = rw page goes.lines;
     }
@@ -48,18 +48,18 @@ pub took_kept : {A S : Type 0} (shows : A → S → Type 0) (hears : Piece → S
     → is_kept p.state.mode ≡ true → Fits p → len ≡ line_len bytes → len ≤ length bytes → 0 < n → n ≤ len → length p.kept + n ≤ limit_of p + 1
     → q ≡ with_kept (take n (take len bytes)) p → r ≡ (kept_more q).page → Tells shows hears (kept_more q).pieces old new
     → Took shows hears bytes p r old new n
-took_kept shows hears bytes n len p q r old new k fits line within some few room kept page told =
+took_kept shows hears bytes n len p q r old new k fits line within some few room kept page emitted =
     let cut = length-take n bytes in
-    let front : take n (take len bytes) ≡ take n bytes = take-take n len bytes few in
+    let prefix : take n (take len bytes) ≡ take n bytes = take-take n len bytes few in
     let all : fed (take n bytes) p ≡ kept_more q =
     fed_kept_all (take n bytes) p k (plain_before n bytes (omega (arith, few, line))) (omega (arith, cut, some, few, within)) (omega (arith, cut, few, within, room))
-    ∙ ap (λ (xs : List ℕ). kept_more (with_kept xs p)) (sym front) ∙ ap kept_more (sym kept) in
+    ∙ ap (λ (xs : List ℕ). kept_more (with_kept xs p)) (sym prefix) ∙ ap kept_more (sym kept) in
     let goes = fitting_more q in
     record {
       some = some;
       within = omega (arith, few, within);
       page = page ∙ ap (λ (x : Effect). x.page) (sym all);
-      told = subst (λ (x : Effect). Tells shows hears x.pieces old new) (sym all) told;
+      emitted = subst (λ (x : Effect). Tells shows hears x.pieces old new) (sym all) emitted;
       fits = subst Fits (sym page) goes.fits;
       lines =
           (let a : r.state.line ≡ (kept_more q).page.state.line = ap (λ (x : Page). x.state.line) page in
@@ -71,7 +71,7 @@ took_kept shows hears bytes n len p q r old new k fits line within some few room
 pub took_end : {A S : Type 0} (shows : A → S → Type 0) (hears : Piece → S → S) (bytes : List ℕ) (p q : Page) (old new : A)
     → is_kept p.state.mode ≡ true → Fits p → 0 < length bytes → line_len bytes ≡ 0 → q ≡ (line_ended p).page
     → Tells shows hears (line_ended p).pieces old new → Took shows hears bytes p q old new 1
-took_end shows hears bytes p q old new k fits some first page told =
+took_end shows hears bytes p q old new k fits some first page emitted =
     let all : fed (take 1 bytes) p ≡ line_ended p =
     ap (λ (xs : List ℕ). fed xs p) (newline_first bytes some first) ∙ alone (read (code "\n") p) ∙ read_kept_in p.state.mode (code "\n") p k in
     let goes = fitting_ended p fits k in
@@ -79,7 +79,7 @@ took_end shows hears bytes p q old new k fits some first page told =
       some = omega arith;
       within = omega (arith, some);
       page = page ∙ ap (λ (x : Effect). x.page) (sym all);
-      told = subst (λ (x : Effect). Tells shows hears x.pieces old new) (sym all) told;
+      emitted = subst (λ (x : Effect). Tells shows hears x.pieces old new) (sym all) emitted;
       fits = subst Fits (sym page) goes.fits;
       lines = (let a : q.state.line ≡ (line_ended p).page.state.line = ap (λ (x : Page). x.state.line) page in let d = goes.same.line in omega (arith, a, d));
     }
@@ -90,4 +90,4 @@ pub took_newline : {A S : Type 0} (shows : A → S → Type 0) (hears : Piece �
 took_newline shows hears p q old new n t =
     let one : n ≡ 1 = (let x = t.some in let y = t.within in omega (arith, x, y)) in
     let all : fed (take n (code "\n" ∷ [])) p ≡ read (code "\n") p = ap (λ (k : ℕ). fed (take k (code "\n" ∷ [])) p) one ∙ alone (read (code "\n") p) in
-    (t.page ∙ ap (λ (x : Effect). x.page) all, subst (λ (x : Effect). Tells shows hears x.pieces old new) all t.told)
+    (t.page ∙ ap (λ (x : Effect). x.page) all, subst (λ (x : Effect). Tells shows hears x.pieces old new) all t.emitted)

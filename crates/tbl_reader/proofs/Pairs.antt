@@ -7,13 +7,13 @@ use Rattle.tbl_reader.specs.Fields.{second_of, is_alone, paired, open_after}
 
 -- the bytes up to a place were read
 pub record Paired (start at : ℕ) (alone : Bool) (old now : List ℕ) : Type 0 where
-  pub front : take at now ++ paired alone (drop at now) ≡ take start old ++ paired false (drop start old)
+  pub prefix : take at now ++ paired alone (drop at now) ≡ take start old ++ paired false (drop start old)
   pub rest : drop at now ≡ drop at old
   pub opens : open_after alone (drop at old) ≡ open_after false (drop start old)
   pub same : length now ≡ length old
 
 pub paired_first : (start : ℕ) (old : List ℕ) → Paired start start false old old
-paired_first start old = record { front = refl; rest = refl; opens = refl; same = refl }
+paired_first start old = record { prefix = refl; rest = refl; opens = refl; same = refl }
 
 some_is : (x y : ℕ) → Some x ≡ Some y → x ≡ y
 some_is x y e = cc
@@ -38,13 +38,13 @@ paired_more start at b alone old now within got_b h =
     let both : b ∷ rest ≡ get_or old at 0 ∷ drop (at + 1) old = sym here ∙ h.rest ∙ there in
     let tails : rest ≡ drop (at + 1) old = tail_is b (get_or old at 0) rest (drop (at + 1) old) both in
     let kept : drop (at + 1) (set now at d) ≡ rest = drop-set-lt (at + 1) now at d (omega arith) in
-    let front : take (at + 1) (set now at d) ≡ take at now ++ d ∷ [] = take_more_set now at d within in
+    let prefix : take (at + 1) (set now at d) ≡ take at now ++ d ∷ [] = take_more_set now at d within in
     record {
-      front = ap (λ (xs : List ℕ). xs ++ paired next (drop (at + 1) (set now at d))) front
+      prefix = ap (λ (xs : List ℕ). xs ++ paired next (drop (at + 1) (set now at d))) prefix
           ∙ ap (λ (xs : List ℕ). (take at now ++ d ∷ []) ++ paired next xs) kept
           ∙ append_assoc (take at now) (d ∷ []) (paired next rest)
           ∙ ap (λ (xs : List ℕ). take at now ++ paired alone xs) (sym here)
-          ∙ h.front;
+          ∙ h.prefix;
       rest = kept ∙ tails;
       opens = ap (λ (xs : List ℕ). open_after next xs) (sym tails) ∙ ap (open_after alone) (sym here ∙ h.rest) ∙ h.opens;
       same = length-set now at d ∙ h.same;
@@ -54,6 +54,6 @@ pub paired_all : (start at : ℕ) (alone : Bool) (old now : List ℕ) → length
     → (now ≡ take start old ++ paired false (drop start old)) × (alone ≡ open_after false (drop start old))
 paired_all start at alone old now all h =
     let none : drop at now ≡ [] = drop_all at now all in (
-      sym (append-nil now) ∙ ap (λ (xs : List ℕ). xs ++ []) (sym (take_all at now all)) ∙ ap (λ (xs : List ℕ). take at now ++ paired alone xs) (sym none) ∙ h.front,
+      sym (append-nil now) ∙ ap (λ (xs : List ℕ). xs ++ []) (sym (take_all at now all)) ∙ ap (λ (xs : List ℕ). take at now ++ paired alone xs) (sym none) ∙ h.prefix,
       ap (open_after alone) (sym (sym h.rest ∙ none)) ∙ h.opens,
     )

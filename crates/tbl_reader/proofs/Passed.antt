@@ -39,18 +39,18 @@ pub part_kept : (n : ℕ) (bytes : List ℕ) (p q : Page) → is_kept p.state.mo
 part_kept zero bytes p q k within before room is = ap (λ (x : Page). effect x []) (sym (is ∙ ap (λ (l : List ℕ). record p { kept = l }) (append-nil p.kept)))
 part_kept (suc m) bytes p q k within before room is =
     let n = suc m in
-    let front = take n bytes in
+    let prefix = take n bytes in
     let cut = length-take n bytes in
-    let longer : length (p.kept ++ front) ≡ length p.kept + length front = length-append p.kept front in
-    fed_kept_all front p k (plain_before n bytes before) (omega (arith, cut, within)) (omega (arith, cut, within, room))
-    ∙ fits_more (with_kept front p) (omega (arith, longer, cut, within, room))
+    let longer : length (p.kept ++ prefix) ≡ length p.kept + length prefix = length-append p.kept prefix in
+    fed_kept_all prefix p k (plain_before n bytes before) (omega (arith, cut, within)) (omega (arith, cut, within, room))
+    ∙ fits_more (with_kept prefix p) (omega (arith, longer, cut, within, room))
     ∙ ap (λ (x : Page). effect x []) (sym is)
 
 -- ---- the next byte, or the end
 
 pub record Reads {A S : Type 0} (shows : A → S → Type 0) (hears : Piece → S → S) (b : ℕ) (p q : Page) (old new : A) : Type 0 where
   pub page : q ≡ (read b p).page
-  pub told : Tells shows hears (read b p).pieces old new
+  pub emitted : Tells shows hears (read b p).pieces old new
   pub goes_on : (q.limits ≡ p.limits) × Fits q × (q.state.line ≤ p.state.line + 1)
 
 pub one_read : {A S : Type 0} (shows : A → S → Type 0) (hears : Piece → S → S) (b n : ℕ) (p q : Page) (old new : A) → Fits p → Took shows hears (b ∷ []) p q old new n
@@ -61,8 +61,8 @@ one_read shows hears b n p q old new fits t =
     let page : q ≡ (read b p).page = t.page ∙ ap (λ (xs : List ℕ). (fed xs p).page) same in
     record {
       page = page;
-      told = subst (λ (ps : List Piece). Tells shows hears ps old new) (append-nil (read b p).pieces)
-          (subst (λ (xs : List ℕ). Tells shows hears (fed xs p).pieces old new) same t.told);
+      emitted = subst (λ (ps : List Piece). Tells shows hears ps old new) (append-nil (read b p).pieces)
+          (subst (λ (xs : List ℕ). Tells shows hears (fed xs p).pieces old new) same t.emitted);
       goes_on = (ap (λ (x : Page). x.limits) page ∙ (read_keeps b p fits).limits, t.fits, (let x = t.lines in omega (arith, x, one)));
     }
 

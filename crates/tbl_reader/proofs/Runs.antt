@@ -173,7 +173,7 @@ fed_free starts.Command bytes p f some h = absurd (let no : false ≡ true = f i
 pub took_part : {A S : Type 0} (shows : A → S → Type 0) (hears : Piece → S → S) (start : Start) (bytes : List ℕ) (n : ℕ) (p q : Page) (old new : A) → p.state.mode ≡ modes.Passing start
     → is_free start (take n bytes) ≡ true → 0 < n → n ≤ length bytes → n ≤ line_len bytes → Fits p → q ≡ at_mode (modes.Passing starts.Other) p
     → Tells shows hears (each tells.Pass (take n bytes)) old new → Took shows hears bytes p q old new n
-took_part shows hears start bytes n p q old new m f some within before fits page told =
+took_part shows hears start bytes n p q old new m f some within before fits page emitted =
     let cut = length-take n bytes in
     let same : p ≡ at_mode (modes.Passing start) p = ap (λ (x : Mode). at_mode x p) m in
     let all : fed (take n bytes) p ≡ effect (at_mode (modes.Passing starts.Other) p) (each tells.Pass (take n bytes)) =
@@ -182,7 +182,7 @@ took_part shows hears start bytes n p q old new m f some within before fits page
       some = some;
       within = within;
       page = page ∙ ap (λ (x : Effect). x.page) (sym all);
-      told = subst (λ (x : Effect). Tells shows hears x.pieces old new) (sym all) told;
+      emitted = subst (λ (x : Effect). Tells shows hears x.pieces old new) (sym all) emitted;
       fits = rw page (subst (λ (x : Mode). length p.kept ≤ limit_in x p.limits) m fits);
       lines = rw page (omega arith);
     }
@@ -190,13 +190,13 @@ took_part shows hears start bytes n p q old new m f some within before fits page
 -- a part of a line of a text block was taken
 pub took_block : {A S : Type 0} (shows : A → S → Type 0) (hears : Piece → S → S) (bytes : List ℕ) (n : ℕ) (p : Page) (old new : A) → p.state.mode ≡ modes.BlockLine → 0 < n
     → n ≤ length bytes → n ≤ line_len bytes → Fits p → Tells shows hears (each tells.BlockText (take n bytes)) old new → Took shows hears bytes p p old new n
-took_block shows hears bytes n p old new m some within before fits told =
+took_block shows hears bytes n p old new m some within before fits emitted =
     let all = fed_block (take n bytes) p m (plain_before n bytes before) in
     record {
       some = some;
       within = within;
       page = ap (λ (x : Effect). x.page) (sym all);
-      told = subst (λ (x : Effect). Tells shows hears x.pieces old new) (sym all) told;
+      emitted = subst (λ (x : Effect). Tells shows hears x.pieces old new) (sym all) emitted;
       fits = fits;
       lines = omega arith;
     }
@@ -261,16 +261,16 @@ short_point a b rest true e f n =
     let long : line_len (a ∷ b ∷ rest) ≡ suc (suc (line_len rest)) = ap (λ (x : ℕ). line_len (x ∷ b ∷ rest)) (is_point a e) ∙ line_of_two b rest other in
     absurd (omega (arith, n, long))
 
-free_front : (n : ℕ) (bytes : List ℕ) → 0 < n → n ≡ line_len bytes → may_command bytes ≡ false → may_command (take n bytes) ≡ false
-free_front zero bytes some n f = absurd (omega (arith, some))
-free_front (suc m) [] some n f = refl
-free_front (suc zero) (a ∷ []) some n f = f
-free_front (suc (suc k)) (a ∷ []) some n f = f
-free_front (suc zero) (a ∷ b ∷ rest) some n f = short_point a b rest (a == code ".") refl f n
-free_front (suc (suc k)) (a ∷ b ∷ rest) some n f = f
+free_prefix : (n : ℕ) (bytes : List ℕ) → 0 < n → n ≡ line_len bytes → may_command bytes ≡ false → may_command (take n bytes) ≡ false
+free_prefix zero bytes some n f = absurd (omega (arith, some))
+free_prefix (suc m) [] some n f = refl
+free_prefix (suc zero) (a ∷ []) some n f = f
+free_prefix (suc (suc k)) (a ∷ []) some n f = f
+free_prefix (suc zero) (a ∷ b ∷ rest) some n f = short_point a b rest (a == code ".") refl f n
+free_prefix (suc (suc k)) (a ∷ b ∷ rest) some n f = f
 
 pub free_take : (start : Start) (n : ℕ) (bytes : List ℕ) → 0 < n → n ≡ line_len bytes → is_free start bytes ≡ true → is_free start (take n bytes) ≡ true
-free_take starts.Nothing n bytes some same f = ap not (free_front n bytes some same (not_true (may_command bytes) f))
+free_take starts.Nothing n bytes some same f = ap not (free_prefix n bytes some same (not_true (may_command bytes) f))
 free_take starts.Other n bytes some same f = refl
 free_take starts.Dot n bytes some same f = f
 free_take starts.DotT n bytes some same f = f
@@ -290,19 +290,19 @@ line_read : (n : ℕ) (start : Start) (bytes : List ℕ) (p : Page) → n ≡ li
 line_read zero start bytes p same less f = newline_read start p (no_command start bytes f)
 line_read (suc m) start bytes p same less f =
     let n = suc m in
-    let front = take n bytes in
+    let prefix = take n bytes in
     let cut = length-take n bytes in
-    fed_append front (code "\n" ∷ []) (at_mode (modes.Passing start) p)
+    fed_append prefix (code "\n" ∷ []) (at_mode (modes.Passing start) p)
     ∙ ap (λ (x : Effect). and_then x (fed (code "\n" ∷ [])))
-    (fed_free start front p (free_take start n bytes (omega arith) same f) (omega (arith, cut, less)) (plain_before n bytes (omega (arith, same))))
-    ∙ ap (λ (x : Effect). effect x.page (each tells.Pass front ++ x.pieces)) (newline_read starts.Other p refl)
-    ∙ ap (λ (ps : List Piece). effect (line_on p) ps) (sym (each_append tells.Pass front (code "\n" ∷ [])))
+    (fed_free start prefix p (free_take start n bytes (omega arith) same f) (omega (arith, cut, less)) (plain_before n bytes (omega (arith, same))))
+    ∙ ap (λ (x : Effect). effect x.page (each tells.Pass prefix ++ x.pieces)) (newline_read starts.Other p refl)
+    ∙ ap (λ (ps : List Piece). effect (line_on p) ps) (sym (each_append tells.Pass prefix (code "\n" ∷ [])))
 
 -- a line and its newline were taken
 pub took_line : {A S : Type 0} (shows : A → S → Type 0) (hears : Piece → S → S) (start : Start) (bytes : List ℕ) (n : ℕ) (p q : Page) (old new : A) → p.state.mode ≡ modes.Passing start
     → is_free start bytes ≡ true → n ≡ line_len bytes → n < length bytes → Fits p → q ≡ line_on p
     → Tells shows hears (each tells.Pass (take (n + 1) bytes)) old new → Took shows hears bytes p q old new (n + 1)
-took_line shows hears start bytes n p q old new m f same less fits page told =
+took_line shows hears start bytes n p q old new m f same less fits page emitted =
     let whole : take (n + 1) bytes ≡ take n bytes ++ code "\n" ∷ [] =
     let more : n + 1 ≡ suc (line_len bytes) = omega (arith, same) in
     rw (more, same) (line_taken bytes (omega (arith, same, less))) in
@@ -314,7 +314,7 @@ took_line shows hears start bytes n p q old new m f same less fits page told =
       some = omega arith;
       within = omega (arith, less);
       page = page ∙ ap (λ (x : Effect). x.page) (sym all);
-      told = subst (λ (x : Effect). Tells shows hears x.pieces old new) (sym all) told;
+      emitted = subst (λ (x : Effect). Tells shows hears x.pieces old new) (sym all) emitted;
       fits = rw page (subst (λ (x : Mode). length p.kept ≤ limit_in x p.limits) m fits);
       lines = rw page (omega arith);
     }
@@ -323,10 +323,10 @@ took_line shows hears start bytes n p q old new m f same less fits page told =
 pub took_rest : {A S : Type 0} (shows : A → S → Type 0) (hears : Piece → S → S) (start : Start) (bytes : List ℕ) (n : ℕ) (p q : Page) (old new : A) → p.state.mode ≡ modes.Passing start
     → is_free start bytes ≡ true → 0 < n → n ≡ length bytes → n ≡ line_len bytes → Fits p → q ≡ at_mode (modes.Passing starts.Other) p
     → Tells shows hears (each tells.Pass bytes) old new → Took shows hears bytes p q old new n
-took_rest shows hears start bytes n p q old new m f some all line fits page told =
+took_rest shows hears start bytes n p q old new m f some all line fits page emitted =
     let whole : take n bytes ≡ bytes = take_all n bytes (omega (arith, all)) in
     took_part shows hears start bytes n p q old new m (ap (is_free start) whole ∙ f) some (omega (arith, all)) (omega (arith, line)) fits page
-    (subst (λ (xs : List ℕ). Tells shows hears (each tells.Pass xs) old new) (sym whole) told)
+    (subst (λ (xs : List ℕ). Tells shows hears (each tells.Pass xs) old new) (sym whole) emitted)
 
 -- ---- many lines
 
@@ -363,7 +363,7 @@ free_more bytes count len n free same less other p =
 pub took_lines : {A S : Type 0} (shows : A → S → Type 0) (hears : Piece → S → S) (bytes : List ℕ) (lines : Lines) (p q : Page) (old new : A) → p.state.mode ≡ modes.Passing starts.Nothing
     → AreFree lines bytes → 0 < lines.len → lines.len ≤ length bytes → lines.count ≤ lines.len → Fits p → q ≡ lines_on lines.count p
     → Tells shows hears (each tells.Pass (take lines.len bytes)) old new → Took shows hears bytes p q old new lines.len
-took_lines shows hears bytes lines p q old new m free some within few fits page told =
+took_lines shows hears bytes lines p q old new m free some within few fits page emitted =
     let here : p ≡ at_mode (modes.Passing starts.Nothing) p = ap (λ (x : Mode). at_mode x p) m in
     let all : fed (take lines.len bytes) p ≡ effect (lines_on lines.count p) (each tells.Pass (take lines.len bytes)) =
     ap (fed (take lines.len bytes)) here ∙ free p in
@@ -371,7 +371,7 @@ took_lines shows hears bytes lines p q old new m free some within few fits page 
       some = some;
       within = within;
       page = page ∙ ap (λ (x : Effect). x.page) (sym all);
-      told = subst (λ (x : Effect). Tells shows hears x.pieces old new) (sym all) told;
+      emitted = subst (λ (x : Effect). Tells shows hears x.pieces old new) (sym all) emitted;
       fits = rw page (subst (λ (x : Mode). length p.kept ≤ limit_in x p.limits) m fits);
       lines = rw page (omega (arith, few));
     }
@@ -397,7 +397,7 @@ goes_byte b s p false e fits = rw e (record { fits = fits; lines = omega arith }
 pub took_byte : {A S : Type 0} (shows : A → S → Type 0) (hears : Piece → S → S) (bytes : List ℕ) (b : ℕ) (s : Start) (p q : Page) (old new : A)
     → p.state.mode ≡ modes.Passing s → 0 < length bytes → b ≡ get_or bytes 0 0 → Fits p → q ≡ (passed b s p).page
     → Tells shows hears (passed b s p).pieces old new → Took shows hears bytes p q old new 1
-took_byte shows hears bytes b s p q old new m some first fits page told =
+took_byte shows hears bytes b s p q old new m some first fits page emitted =
     let here : read b p ≡ passed b s p = rw m refl in
     let all : fed (take 1 bytes) p ≡ passed b s p =
     ap (λ (xs : List ℕ). fed xs p) (first_byte bytes b some first) ∙ alone (read b p) ∙ here in
@@ -406,7 +406,7 @@ took_byte shows hears bytes b s p q old new m some first fits page told =
       some = omega arith;
       within = omega (arith, some);
       page = page ∙ ap (λ (x : Effect). x.page) (sym all);
-      told = subst (λ (x : Effect). Tells shows hears x.pieces old new) (sym all) told;
+      emitted = subst (λ (x : Effect). Tells shows hears x.pieces old new) (sym all) emitted;
       fits = rw page goes.fits;
       lines = rw page goes.lines;
     }

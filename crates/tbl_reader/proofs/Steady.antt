@@ -52,7 +52,7 @@ taken_line sures.Nothing cells m = refl
 same_cells : (cells : ℕ) (s : State) → Same s (states.cells_taken cells s)
 same_cells cells s = record {
   line = refl;
-  cells = choose (λ (m : Measure). m.line ≡ s.measure.line) (states.passes_line cells s) (measures.told s.measure) (measures.taken s.measure.sure cells s.measure) refl
+  cells = choose (λ (m : Measure). m.line ≡ s.measure.line) (states.passes_line cells s) (measures.emitted s.measure) (measures.taken s.measure.sure cells s.measure) refl
       (taken_line s.measure.sure cells s.measure);
 }
 
@@ -161,13 +161,13 @@ fitting_row p few =
     let r = (all_ended q).page in
     let h = rowing (p.state.formats.columns - p.state.fields) q in
     let whole = length-append (take p.start p.kept) (cleaned (line_of p)) in
-    let front = length-take p.start p.kept in
+    let prefix = length-take p.start p.kept in
     let back = length-drop p.start p.kept in
     let shorter = cleaned_shorter (line_of p) in
     let same_len : length r.kept ≡ length q.kept = ap length h.kept in
     let l : r.limits.row ≡ p.limits.row = ap (λ (x : Limits). x.row) h.limits in
     fitting_then p r (line_continued (continues (line_of p)) r).page h.limits (record { line = h.same.line; cells = h.same.cells })
-    (fitting_continued (continues (line_of p)) r (omega (arith, whole, front, back, shorter, same_len, l, few)))
+    (fitting_continued (continues (line_of p)) r (omega (arith, whole, prefix, back, shorter, same_len, l, few)))
 
 pub fitting_between : (p : Page) → length p.kept ≤ p.limits.row → Fitting p (line_between p).page
 fitting_between p few =

@@ -52,12 +52,12 @@ is_held starts.Other = false
 
 -- all of these bytes pass, and nothing else is said
 record Comes_to (p : Page) (bs : List ℕ) : Type 0 where
-  pub told : (fed bs p).pieces ≡ each tells.Pass bs
+  pub emitted : (fed bs p).pieces ≡ each tells.Pass bs
   pub ends : (finished (fed bs p).page).pieces ≡ []
 
 one_more : (p q : Page) (b : ℕ) (bs : List ℕ) → read b p ≡ effect q (piece tells.Pass (b ∷ []) ∷ []) → Comes_to q bs → Comes_to p (b ∷ bs)
 one_more p q b bs e more = record {
-  told = ap (λ (x : Effect). x.pieces ++ (fed bs x.page).pieces) e ∙ ap (λ (ps : List Piece). piece tells.Pass (b ∷ []) ∷ ps) more.told;
+  emitted = ap (λ (x : Effect). x.pieces ++ (fed bs x.page).pieces) e ∙ ap (λ (ps : List Piece). piece tells.Pass (b ∷ []) ∷ ps) more.emitted;
   ends = ap (λ (x : Effect). (finished (fed bs x.page).page).pieces) e ∙ more.ends;
 }
 
@@ -86,14 +86,14 @@ held_grows starts.Name t b e h k = grind (arith, common_steps)
 held_grows starts.Command t b e h k = absurd (let no : false ≡ true = h in cc)
 held_grows starts.Other t b e h k = absurd (let no : false ≡ true = h in cc)
 
-none_behind : (s : Start) (b : ℕ) (bs : List ℕ) → is_held s ≡ true → has_table_from true (held s ++ b ∷ bs) ≡ false → has_table_from (b == code "\n") bs ≡ false
+none_after : (s : Start) (b : ℕ) (bs : List ℕ) → is_held s ≡ true → has_table_from true (held s ++ b ∷ bs) ≡ false → has_table_from (b == code "\n") bs ≡ false
 unfolding held is_held
-none_behind starts.Nothing b bs k h = or_second (begins_table (b ∷ bs)) (has_table_from (b == code "\n") bs) h
-none_behind starts.Dot b bs k h = or_second (begins_table (code "." ∷ b ∷ bs)) (has_table_from (b == code "\n") bs) h
-none_behind starts.DotT b bs k h = or_second (begins_table (code "." ∷ code "T" ∷ b ∷ bs)) (has_table_from (b == code "\n") bs) h
-none_behind starts.Name b bs k h = or_second (begins_table (code "." ∷ code "T" ∷ code "S" ∷ b ∷ bs)) (has_table_from (b == code "\n") bs) h
-none_behind starts.Command b bs k h = absurd (let no : false ≡ true = k in cc)
-none_behind starts.Other b bs k h = absurd (let no : false ≡ true = k in cc)
+none_after starts.Nothing b bs k h = or_second (begins_table (b ∷ bs)) (has_table_from (b == code "\n") bs) h
+none_after starts.Dot b bs k h = or_second (begins_table (code "." ∷ b ∷ bs)) (has_table_from (b == code "\n") bs) h
+none_after starts.DotT b bs k h = or_second (begins_table (code "." ∷ code "T" ∷ b ∷ bs)) (has_table_from (b == code "\n") bs) h
+none_after starts.Name b bs k h = or_second (begins_table (code "." ∷ code "T" ∷ code "S" ∷ b ∷ bs)) (has_table_from (b == code "\n") bs) h
+none_after starts.Command b bs k h = absurd (let no : false ≡ true = k in cc)
+none_after starts.Other b bs k h = absurd (let no : false ≡ true = k in cc)
 
 no_name : (b : ℕ) (bs : List ℕ) → has_table_from true (code "." ∷ code "T" ∷ code "S" ∷ b ∷ bs) ≡ false → ((b == code "\n") || ends_name b) ≡ false
 no_name b bs h = or_first ((b == code "\n") || ends_name b) (has_table_from (b == code "\n") bs) h
@@ -134,15 +134,15 @@ record Untouched (l : Limits) (cells : ℕ) (bs : List ℕ) : Type 0 where
 
 none_untouched : (l : Limits) (cells : ℕ) → Untouched l cells []
 none_untouched l cells = record {
-  midst = λ line h. record { told = refl; ends = finished_outside l cells line starts.Other refl };
-  start = λ line s k h. record { told = refl; ends = finished_outside l cells line s (ends_none s k h) };
+  midst = λ line h. record { emitted = refl; ends = finished_outside l cells line starts.Other refl };
+  start = λ line s k h. record { emitted = refl; ends = finished_outside l cells line s (ends_none s k h) };
 }
 
 -- a newline comes
-behind_newline : (l : Limits) (cells line b : ℕ) (bs : List ℕ) (s : Start) → Untouched l cells bs → (b == code "\n") ≡ true → begins_command s ≡ false
+after_newline : (l : Limits) (cells line b : ℕ) (bs : List ℕ) (s : Start) → Untouched l cells bs → (b == code "\n") ≡ true → begins_command s ≡ false
     → has_table_from (b == code "\n") bs ≡ false → Comes_to (outside l cells line s) (b ∷ bs)
 unfolding held is_held
-behind_newline l cells line b bs s u e f h =
+after_newline l cells line b bs s u e f h =
     one_more (outside l cells line s) (outside l cells (line + 1) starts.Nothing) b bs (read_newline l cells line b s e f)
     (u.start (line + 1) starts.Nothing refl (ap (λ t. has_table_from t bs) (sym e) ∙ h))
 
@@ -165,16 +165,16 @@ at_start l cells line b bs s starts.DotT u e k h f =
 at_start l cells line b bs s starts.Name u e k h f =
     u.start line starts.Name refl (ap (λ xs. has_table_from true (xs ++ bs)) (held_grows s starts.Name b f k refl) ∙ ap (has_table_from true) (append_assoc (held s) (b ∷ []) bs) ∙ h)
 at_start l cells line b bs s starts.Command u e k h f = absurd (no_command s b bs k h f)
-at_start l cells line b bs s starts.Other u e k h f = u.midst line (ap (λ x. has_table_from x bs) (sym e) ∙ none_behind s b bs k h)
+at_start l cells line b bs s starts.Other u e k h f = u.midst line (ap (λ x. has_table_from x bs) (sym e) ∙ none_after s b bs k h)
 
 start_step : (l : Limits) (cells line b : ℕ) (bs : List ℕ) (s : Start) (newline : Bool) → (b == code "\n") ≡ newline → Untouched l cells bs → is_held s ≡ true
     → has_table_from true (held s ++ b ∷ bs) ≡ false → Comes_to (outside l cells line s) (b ∷ bs)
-start_step l cells line b bs s true e u k h = behind_newline l cells line b bs s u e (no_end s b bs e k h) (none_behind s b bs k h)
+start_step l cells line b bs s true e u k h = after_newline l cells line b bs s u e (no_end s b bs e k h) (none_after s b bs k h)
 start_step l cells line b bs s false e u k h = goes_on l cells line b bs s (start_with (code "S") b s) u e refl (at_start l cells line b bs s (start_with (code "S") b s) u e k h refl)
 
 midst_step : (l : Limits) (cells line b : ℕ) (bs : List ℕ) (newline : Bool) → (b == code "\n") ≡ newline → Untouched l cells bs
     → has_table_from (b == code "\n") bs ≡ false → Comes_to (outside l cells line starts.Other) (b ∷ bs)
-midst_step l cells line b bs true e u h = behind_newline l cells line b bs starts.Other u e refl h
+midst_step l cells line b bs true e u h = after_newline l cells line b bs starts.Other u e refl h
 midst_step l cells line b bs false e u h = goes_on l cells line b bs starts.Other starts.Other u e refl (u.midst line (ap (λ x. has_table_from x bs) (sym e) ∙ h))
 
 all_untouched : (l : Limits) (cells : ℕ) (bs : List ℕ) → Untouched l cells bs
@@ -187,7 +187,7 @@ all_untouched l cells (b ∷ bs) =
     }
 
 both : (p : Page) (bs : List ℕ) → Comes_to p bs → (fed bs p).pieces ++ (finished (fed bs p).page).pieces ≡ each tells.Pass bs
-both p bs h = ap (λ (ps : List Piece). (fed bs p).pieces ++ ps) h.ends ∙ append-nil (fed bs p).pieces ∙ h.told
+both p bs h = ap (λ (ps : List Piece). (fed bs p).pieces ++ ps) h.ends ∙ append-nil (fed bs p).pieces ∙ h.emitted
 
 pub untouched : (l : Limits) (cells : ℕ) (text : List ℕ) → is_untouched text ≡ true → page_said l cells text ≡ each tells.Pass text
 unfolding outside held is_held

@@ -65,10 +65,10 @@ pub Came-skip : (a b : Option Supply) (window : List ℕ) (n : ℕ) → n ≤ le
 Came-skip None b window n l o s = tt
 Came-skip (Some q) None window n l o s = absurd (let no : None ≡ Some (skipped n q) = s in cc)
 Came-skip (Some q) (Some t) window n l o s =
-    let front : take n window ≡ take n q.bytes =
+    let prefix : take n window ≡ take n q.bytes =
     ap (λ (ys : List ℕ). take n ys) (sym o.0) ∙ take-take n (length window) q.bytes l in
     let rest : t.bytes ≡ drop n q.bytes = skipped-bytes q t n s in
-    rw (front, rest) (sym (take-append-drop n q.bytes))
+    rw (prefix, rest) (sym (take-append-drop n q.bytes))
 
 -- ---- many bytes
 
@@ -85,10 +85,10 @@ fed-append_pieces (x ∷ xs) ys p =
 pub page-fed : (xs ys : List ℕ) (p q r : Page) → q ≡ (fed xs p).page → r ≡ (fed ys q).page → r ≡ (fed (xs ++ ys) p).page
 page-fed xs ys p q r h k = k ∙ ap (λ (t : Page). (fed ys t).page) h ∙ sym (fed-append_page xs ys p)
 
-pub told-fed : {A S : Type 0} (shows : A → S → Type 0) (hears : Piece → S → S) (xs ys : List ℕ) (p q : Page) (a b c : A)
+pub emitted-fed : {A S : Type 0} (shows : A → S → Type 0) (hears : Piece → S → S) (xs ys : List ℕ) (p q : Page) (a b c : A)
     → q ≡ (fed xs p).page → Tells shows hears (fed xs p).pieces a b → Tells shows hears (fed ys q).pieces b c
     → Tells shows hears (fed (xs ++ ys) p).pieces a c
-told-fed shows hears xs ys p q a b c same h k =
+emitted-fed shows hears xs ys p q a b c same h k =
     let here : Tells shows hears (fed ys (fed xs p).page).pieces b c = subst (λ (t : Page). Tells shows hears (fed ys t).pieces b c) same k in
     let both = tells_append shows hears (fed xs p).pieces (fed ys (fed xs p).page).pieces a b c h here in
     subst (λ (ps : List Piece). Tells shows hears ps a c) (sym (fed-append_pieces xs ys p)) both
@@ -102,16 +102,16 @@ Stands-took shows hears l cells first a b p q old now new taken n s t = record {
   came = Came-trans first a b s.bytes t.bytes s.came t.came;
   count = (let both = length-append s.bytes t.bytes in let x = s.count in let y = t.count in omega (arith, both, x, y));
   page = page-fed s.bytes t.bytes (first_page l cells) p q s.page t.page;
-  told = told-fed shows hears s.bytes t.bytes (first_page l cells) p old now new s.page s.told t.told;
+  emitted = emitted-fed shows hears s.bytes t.bytes (first_page l cells) p old now new s.page s.emitted t.emitted;
   fits = t.fits;
   lines = (let x = s.lines in let y = t.lines in omega (arith, x, y));
 }
 
 -- with the end all was told
-pub told-all : {A S : Type 0} (shows : A → S → Type 0) (hears : Piece → S → S) (l : Limits) (cells : ℕ) (first a b : Option Supply) (p q : Page) (old now new : A) (taken : ℕ)
+pub emitted-all : {A S : Type 0} (shows : A → S → Type 0) (hears : Piece → S → S) (l : Limits) (cells : ℕ) (first a b : Option Supply) (p q : Page) (old now new : A) (taken : ℕ)
     → (s : Stands shows hears l cells first a p old now taken) → Ended shows hears a b p q now new → Tells shows hears (page_said l cells s.bytes) old new
-told-all shows hears l cells first a b p q old now new taken s e =
-    tells_then shows hears (fed s.bytes (first_page l cells)) finished p old now new s.page s.told e.told
+emitted-all shows hears l cells first a b p q old now new taken s e =
+    tells_then shows hears (fed s.bytes (first_page l cells)) finished p old now new s.page s.emitted e.emitted
 
 pub Ran-done : {A S : Type 0} (shows : A → S → Type 0) (hears : Piece → S → S) (l : Limits) (cells : ℕ) (first a b : Option Supply) (p q : Page) (old now new : A) (taken : ℕ)
     → Stands shows hears l cells first a p old now taken → Ended shows hears a b p q now new → IsDone shows hears l cells first b old new
@@ -119,7 +119,7 @@ Ran-done shows hears l cells first a b p q old now new taken s e = record {
   bytes = s.bytes;
   came = Came-then_nothing first a b s.bytes s.came e.came;
   ends = Ends-after first a b s.bytes s.came e.ends;
-  told = told-all shows hears l cells first a b p q old now new taken s e;
+  emitted = emitted-all shows hears l cells first a b p q old now new taken s e;
   few = page_few l cells s.bytes;
 }
 
@@ -127,27 +127,27 @@ pub Ran-fault : {A S : Type 0} (shows : A → S → Type 0) (hears : Piece → S
     → Stands shows hears l cells first a p old now taken → Took shows hears a b p q now new 0 → IsCut shows hears l cells first b old new taken
 Ran-fault shows hears l cells first a b p q old now new taken s t =
     let on = Stands-took shows hears l cells first a b p q old now new taken 0 s t in
-    record { bytes = on.bytes; came = on.came; count = (let n = on.count in omega (arith, n)); told = on.told; few = cut_few l cells on.bytes }
+    record { bytes = on.bytes; came = on.came; count = (let n = on.count in omega (arith, n)); emitted = on.emitted; few = cut_few l cells on.bytes }
 
 pub Ran-long : {A S : Type 0} (shows : A → S → Type 0) (hears : Piece → S → S) (l : Limits) (cells : ℕ) (first a : Option Supply) (p : Page) (old now : A) (taken : ℕ)
     → Stands shows hears l cells first a p old now taken → taken ≡ 1099511627776 → IsCut shows hears l cells first a old now 1099511627776
-Ran-long shows hears l cells first a p old now taken s all = record { bytes = s.bytes; came = s.came; count = s.count ∙ all; told = s.told; few = cut_few l cells s.bytes }
+Ran-long shows hears l cells first a p old now taken s all = record { bytes = s.bytes; came = s.came; count = s.count ∙ all; emitted = s.emitted; few = cut_few l cells s.bytes }
 
 -- one who heard what a turn says could not put out all of it
 pub Ran-broken : {A S : Type 0} (shows : A → S → Type 0) (hears : Piece → S → S) (l : Limits) (cells : ℕ) (first a b : Option Supply) (p q : Page) (old now new : A) (taken : ℕ) (turn : Turn)
     → Stands shows hears l cells first a p old now taken → Turns shows hears a b p q now new turn → IsBroken shows hears l cells first b old new
 Ran-broken shows hears l cells first a b p q old now new taken (turns.Took n) s t =
     let on = Stands-took shows hears l cells first a b p q old now new taken n s t in
-    record { bytes = on.bytes; came = on.came; told = inl on.told; few = page_few l cells on.bytes }
+    record { bytes = on.bytes; came = on.came; emitted = inl on.emitted; few = page_few l cells on.bytes }
 Ran-broken shows hears l cells first a b p q old now new taken turns.End s t = record {
   bytes = s.bytes;
   came = Came-then_nothing first a b s.bytes s.came t.came;
-  told = inr (told-all shows hears l cells first a b p q old now new taken s t);
+  emitted = inr (emitted-all shows hears l cells first a b p q old now new taken s t);
   few = page_few l cells s.bytes;
 }
 Ran-broken shows hears l cells first a b p q old now new taken turns.ReadFault s t =
     let on = Stands-took shows hears l cells first a b p q old now new taken 0 s t in
-    record { bytes = on.bytes; came = on.came; told = inl on.told; few = page_few l cells on.bytes }
+    record { bytes = on.bytes; came = on.came; emitted = inl on.emitted; few = page_few l cells on.bytes }
 
 -- ---- a turn
 
@@ -162,7 +162,7 @@ Took-byte shows hears a b byte m p q old new gives t =
       came = Came-next a b byte gives;
       count = refl;
       page = t.page ∙ ap (λ (xs : List ℕ). (fed xs p).page) same;
-      told = subst (λ (xs : List ℕ). Tells shows hears (fed xs p).pieces old new) same t.told;
+      emitted = subst (λ (xs : List ℕ). Tells shows hears (fed xs p).pieces old new) same t.emitted;
       fits = t.fits;
       lines = (let x = t.lines in omega (arith, x, one));
     }
@@ -175,7 +175,7 @@ Took-fault shows hears a b c p q old new n e zero_is t gives = record {
   came = Came-then_nothing a b c t.bytes t.came (Came-fault b c e gives);
   count = t.count ∙ zero_is;
   page = t.page;
-  told = t.told;
+  emitted = t.emitted;
   fits = t.fits;
   lines = (let x = t.lines in omega (arith, x, zero_is));
 }
@@ -191,7 +191,7 @@ Took-window shows hears a b window len n p q old new within offers skips t =
       came = Came-skip a b window n (omega (arith, few, within)) offers skips;
       count = (let x = length-take n window in omega (arith, x, few, within));
       page = t.page ∙ ap (λ (xs : List ℕ). (fed xs p).page) same;
-      told = subst (λ (xs : List ℕ). Tells shows hears (fed xs p).pieces old new) same t.told;
+      emitted = subst (λ (xs : List ℕ). Tells shows hears (fed xs p).pieces old new) same t.emitted;
       fits = t.fits;
       lines = t.lines;
     }
@@ -204,7 +204,7 @@ Took-then shows hears a b c p q r old now new n m s t = record {
   came = Came-trans a b c s.bytes t.bytes s.came t.came;
   count = (let both = length-append s.bytes t.bytes in let x = s.count in let y = t.count in omega (arith, both, x, y));
   page = page-fed s.bytes t.bytes p q r s.page t.page;
-  told = told-fed shows hears s.bytes t.bytes p q old now new s.page s.told t.told;
+  emitted = emitted-fed shows hears s.bytes t.bytes p q old now new s.page s.emitted t.emitted;
   fits = t.fits;
   lines = (let x = s.lines in let y = t.lines in omega (arith, x, y));
 }
@@ -220,13 +220,13 @@ Ended-after shows hears a b c p q r old now new n zero_is t e =
     let no = none t.bytes (t.count ∙ zero_is) in
     let came : Came a [] b = subst (λ (xs : List ℕ). Came a xs b) no t.came in
     let same : q ≡ p = t.page ∙ ap (λ (xs : List ℕ). (fed xs p).page) no in
-    let heard_none : Tells shows hears [] old now = subst (λ (xs : List ℕ). Tells shows hears (fed xs p).pieces old now) no t.told in
-    let ended : Tells shows hears (finished p).pieces now new = subst (λ (x : Page). Tells shows hears (finished x).pieces now new) same e.told in
+    let heard_none : Tells shows hears [] old now = subst (λ (xs : List ℕ). Tells shows hears (fed xs p).pieces old now) no t.emitted in
+    let ended : Tells shows hears (finished p).pieces now new = subst (λ (x : Page). Tells shows hears (finished x).pieces now new) same e.emitted in
     record {
       came = Came-trans a b c [] [] came e.came;
       ends = Ends-after a b c [] came e.ends;
       page = e.page ∙ ap (λ (x : Page). (finished x).page) same;
-      told = λ s h. ended s (heard_none s h);
+      emitted = λ s h. ended s (heard_none s h);
     }
 
 pub Took-after : {A S : Type 0} (shows : A → S → Type 0) (hears : Piece → S → S) (a b c : Option Supply) (p q r : Page) (old now new : A) (n m : ℕ)
@@ -259,7 +259,7 @@ Stands-first shows hears l cells a p old page = record {
   came = Came-nil a;
   count = refl;
   page = page;
-  told = λ s h. h;
+  emitted = λ s h. h;
   fits = rw page (omega arith);
   lines = rw page (omega arith);
 }

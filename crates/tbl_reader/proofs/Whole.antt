@@ -71,15 +71,15 @@ fed_passes (b ∷ bs) s p h =
     (read_at b s p (and_first (b == code "\n") (is_line bs) h)) (fed_passes bs next p (and_second (b == code "\n") (is_line bs) h))
 
 -- the line behind
-behind : Bool → Page → List Piece → Effect
-behind begun p said = let e = line_passed begun p in effect e.page (said ++ e.pieces)
+after_line : Bool → Page → List Piece → Effect
+after_line begun p said = let e = line_passed begun p in effect e.page (said ++ e.pieces)
 
 passed_from : (begun : Bool) (s : Start) (p : Page) → line_passed begun (at_mode (modes.Passing s) p) ≡ line_passed begun p
 passed_from true s p = refl
 passed_from false s p = refl
 
 pub lines_pass : LinesPass
-unfolding behind
+unfolding after_line
 lines_pass line p h =
     let s = start_after (code "S") line starts.Nothing in
     let q = at_mode (modes.Passing s) p in
@@ -91,7 +91,7 @@ lines_pass line p h =
     ∙ ap (λ (ps : List Piece). effect e.page ps) (sym (append_assoc said (piece tells.Pass (code "\n" ∷ []) ∷ []) e.pieces))
     ∙ ap (λ (ps : List Piece). effect e.page (ps ++ e.pieces)) (sym (each_append tells.Pass line (code "\n" ∷ [])))
     ∙ ap (λ (x : Effect). effect x.page (each tells.Pass (with_newline line) ++ x.pieces)) (passed_from (begins_command s) s p)
-    ∙ ap (λ (t : Bool). behind t p (each tells.Pass (with_newline line))) (begins (code "S") line)
+    ∙ ap (λ (t : Bool). after_line t p (each tells.Pass (with_newline line))) (begins (code "S") line)
 
 -- ---- a line of a table
 

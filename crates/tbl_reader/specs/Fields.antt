@@ -59,13 +59,13 @@ is_request (a ∷ []) = a == code "."
 is_request (a ∷ b ∷ rest) = (a == code ".") && not (is_digit b)
 
 -- where the first of these bytes stands
-abbrev pub behind : Option ℕ → Option ℕ
-behind None = None
-behind (Some n) = Some (1 + n)
+abbrev pub one_later : Option ℕ → Option ℕ
+one_later None = None
+one_later (Some n) = Some (1 + n)
 
 abbrev pub place_of : ℕ → List ℕ → Option ℕ
 place_of byte [] = None
-place_of byte (b ∷ bs) = if b == byte then Some 0 else behind (place_of byte bs)
+place_of byte (b ∷ bs) = if b == byte then Some 0 else one_later (place_of byte bs)
 
 -- of two backslashes the second becomes `e`; one that stands alone may be the first of two
 abbrev pub second_of : Bool → ℕ → ℕ
@@ -86,7 +86,7 @@ open_after alone (b ∷ bs) = open_after (is_alone alone b) bs
 -- a line ends with a comment
 abbrev pub comment_in : List ℕ → Option ℕ
 comment_in [] = None
-comment_in (b ∷ bs) = if is_comment (b ∷ bs) then Some 0 else behind (comment_in bs)
+comment_in (b ∷ bs) = if is_comment (b ∷ bs) then Some 0 else one_later (comment_in bs)
 
 abbrev pub is_given : Option ℕ → Bool
 is_given None = false

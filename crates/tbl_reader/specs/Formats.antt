@@ -16,12 +16,12 @@ abbrev pub only : Call → Called
 only call = record { ends = false; begins = false; call = call }
 
 -- what is half read then, and what is called
-pub record Told : Type 0 where
+pub record Returned : Type 0 where
   pub formats : Formats
   pub called : Called
 
-abbrev pub told : Formats → Called → Told
-told f called = record { formats = f; called = called }
+abbrev pub returned : Formats → Called → Returned
+returned f called = record { formats = f; called = called }
 
 abbrev pub first_formats : ℕ → ℕ → Bool → Formats
 first_formats columns lines numeric = record {
@@ -74,72 +74,72 @@ with_cell kind f =
       bars = 0;
     }
 
-abbrev pub cell_added : ℕ → Bool → Formats → Told
+abbrev pub cell_added : ℕ → Bool → Formats → Returned
 cell_added kind begins f =
-    told (with_cell kind f) (record { ends = false; begins = begins; call = Cell kind f.bars })
+    returned (with_cell kind f) (record { ends = false; begins = begins; call = Cell kind f.bars })
 
 -- one of l where it can't be of its kind
-abbrev pub kind_added : ℕ → Bool → Formats → Told
+abbrev pub kind_added : ℕ → Bool → Formats → Returned
 kind_added kind begins f = if is_bad kind f then cell_added (code "l") begins (blaming kind f)
     else cell_added kind begins f
 
-abbrev pub cell : ℕ → Formats → Told
+abbrev pub cell : ℕ → Formats → Returned
 cell kind f = if f.begun then kind_added kind false f else kind_added kind true (line_begun f)
 
-abbrev pub line_ends : Formats → Told
+abbrev pub line_ends : Formats → Returned
 line_ends f =
-    if f.begun then told (record f { begun = false; bars = 0 }) (only (Bars f.bars))
-    else told f (only Nothing)
+    if f.begun then returned (record f { begun = false; bars = 0 }) (only (Bars f.bars))
+    else returned f (only Nothing)
 
-abbrev pub bar : Formats → Told
-bar f = told (record f { bars = one_more f.bars 2 }) (only Nothing)
+abbrev pub bar : Formats → Returned
+bar f = returned (record f { bars = one_more f.bars 2 }) (only Nothing)
 
-abbrev pub bad_byte : ℕ → Formats → Told
-bad_byte b f = told (blaming b f) (only Nothing)
+abbrev pub bad_byte : ℕ → Formats → Returned
+bad_byte b f = returned (blaming b f) (only Nothing)
 
 -- ---- what modifies a column
 
-abbrev pub going_on : Part → Call → Formats → Told
-going_on part call f = told (record f { part = part }) (only call)
+abbrev pub going_on : Part → Call → Formats → Returned
+going_on part call f = returned (record f { part = part }) (only call)
 
 -- b i e x z t d, u without effect, f w p v m, and a number for the space after it
-abbrev pub modifier : ℕ → Formats → Told
+abbrev pub modifier : ℕ → Formats → Returned
 modifier b f =
-    if b == code "b" then told f (only (Font (code "B"))) else
-    if b == code "i" then told f (only (Font (code "I"))) else
-    if b == code "e" then told f (only Equal) else
-    if b == code "x" then told f (only Wide) else
-    if b == code "z" then told f (only Zero) else
-    if b == code "t" then told f (only Top) else
-    if b == code "d" then told f (only Low) else
-    if b == code "u" then told f (only Nothing) else
+    if b == code "b" then returned f (only (Font (code "B"))) else
+    if b == code "i" then returned f (only (Font (code "I"))) else
+    if b == code "e" then returned f (only Equal) else
+    if b == code "x" then returned f (only Wide) else
+    if b == code "z" then returned f (only Zero) else
+    if b == code "t" then returned f (only Top) else
+    if b == code "d" then returned f (only Low) else
+    if b == code "u" then returned f (only Nothing) else
     if b == code "f" then going_on parts.Font Nothing f else
     if b == code "w" then going_on parts.Width Width f else
     if (b == code "p") || (b == code "v") || (b == code "m") then going_on (parts.Size b) Nothing f else
     if is_digit b then going_on parts.Digits (Gap b) f else bad_byte b f
 
-abbrev pub column : ℕ → Option ℕ → Formats → Told
+abbrev pub column : ℕ → Option ℕ → Formats → Returned
 column b (Some kind) f = cell kind f
 column b None f = if f.begun then modifier b f else bad_byte b f
 
-abbrev pub small_key : ℕ → Formats → Told
+abbrev pub small_key : ℕ → Formats → Returned
 small_key b f =
     if (b == code "\n") || (b == code ",") then line_ends f else
-    if (b == code " ") || (b == code "\t") || (b == code ".") then told f (only Nothing) else
+    if (b == code " ") || (b == code "\t") || (b == code ".") then returned f (only Nothing) else
     if b == code "|" then bar f else column b (kind_of b) f
 
 -- a byte where a column may come, in either case of letters
-abbrev pub key : ℕ → Formats → Told
+abbrev pub key : ℕ → Formats → Returned
 key b f = small_key (small b) f
 
 -- a part has ended before this byte
-abbrev pub ended : Bool → ℕ → Formats → Told
+abbrev pub ended : Bool → ℕ → Formats → Returned
 ended ends b f =
     let t = key b (record f { part = parts.Keys }) in
-    told t.formats (record t.called { ends = ends })
+    returned t.formats (record t.called { ends = ends })
 
 -- the part of a letter has ended before what it needs
-abbrev pub cut_short : ℕ → Bool → ℕ → Formats → Told
+abbrev pub cut_short : ℕ → Bool → ℕ → Formats → Returned
 cut_short letter ends b f = ended ends b (blaming letter f)
 
 -- ---- fonts
@@ -149,67 +149,67 @@ abbrev pub font_of : ℕ → ℕ
 font_of b = if (b == code "B") || (b == code "3") then code "B" else if (b == code "I") || (b == code "2")
     then code "I" else code "R"
 
-abbrev pub font : ℕ → Formats → Told
+abbrev pub font : ℕ → Formats → Returned
 font b f = going_on parts.Keys (Font (font_of b)) f
 
-abbrev pub in_font : ℕ → Formats → Told
+abbrev pub in_font : ℕ → Formats → Returned
 in_font b f =
     if b == code "(" then going_on (parts.FontName (code "R")) Nothing f else
-    if (b == code " ") || (b == code "\t") then told f (only Nothing) else
+    if (b == code " ") || (b == code "\t") then returned f (only Nothing) else
     if b == code "\n" then cut_short (code "f") false b f else going_on parts.FontMore (Font (font_of b)) f
 
 -- a capital letter or a digit
 abbrev pub is_name_byte : ℕ → Bool
 is_name_byte b = (nat_le (code "A") b && nat_le b (code "Z")) || is_digit b
 
-abbrev pub in_font_more : ℕ → Formats → Told
+abbrev pub in_font_more : ℕ → Formats → Returned
 in_font_more b f = if is_name_byte b then font b f else ended false b f
 
-abbrev pub in_font_name : ℕ → ℕ → Formats → Told
+abbrev pub in_font_name : ℕ → ℕ → Formats → Returned
 in_font_name last b f =
     if b == code ")" then font last f else
     if b == code "\n" then cut_short (code "f") false b f else going_on (parts.FontName b) Nothing f
 
 -- ---- numbers
 
-abbrev pub in_width : ℕ → Formats → Told
+abbrev pub in_width : ℕ → Formats → Returned
 in_width b f =
     if b == code "(" then going_on (parts.WidthIn false) Nothing f else
     if is_digit b then going_on parts.Digits (Byte b) f else
-    if (b == code " ") || (b == code "\t") then told f (only Nothing) else cut_short (code "w") true b f
+    if (b == code " ") || (b == code "\t") then returned f (only Nothing) else cut_short (code "w") true b f
 
 -- in parentheses a digit stands, or an escape
-abbrev pub width_ended : Bool → Formats → Told
+abbrev pub width_ended : Bool → Formats → Returned
 width_ended said f = going_on parts.Keys (Byte (code "\n")) (if said then f else blaming (code "w") f)
 
-abbrev pub in_width_in : Bool → ℕ → Formats → Told
+abbrev pub in_width_in : Bool → ℕ → Formats → Returned
 in_width_in said b f =
     if b == code ")" then width_ended said f else
     if b == code "\n" then cut_short (code "w") true b f else
     if is_digit b || (b == code "\\") then going_on (parts.WidthIn true) (Byte b) f
-    else told f (only (Byte b))
+    else returned f (only (Byte b))
 
-abbrev pub in_digits : ℕ → Formats → Told
-in_digits b f = if is_digit b then told f (only (Byte b)) else ended true b f
+abbrev pub in_digits : ℕ → Formats → Returned
+in_digits b f = if is_digit b then returned f (only (Byte b)) else ended true b f
 
 -- type sizes and the like have no effect
-abbrev pub in_size : ℕ → ℕ → Formats → Told
+abbrev pub in_size : ℕ → ℕ → Formats → Returned
 in_size letter b f =
     if b == code "(" then going_on (parts.SizeIn letter) Nothing f else
     if (b == code "+") || (b == code "-") || is_digit b then going_on parts.SizeDigits Nothing f
     else cut_short letter false b f
 
-abbrev pub in_size_digits : ℕ → Formats → Told
-in_size_digits b f = if is_digit b then told f (only Nothing) else ended false b f
+abbrev pub in_size_digits : ℕ → Formats → Returned
+in_size_digits b f = if is_digit b then returned f (only Nothing) else ended false b f
 
-abbrev pub in_size_in : ℕ → ℕ → Formats → Told
+abbrev pub in_size_in : ℕ → ℕ → Formats → Returned
 in_size_in letter b f =
     if b == code ")" then going_on parts.Keys Nothing f else
-    if b == code "\n" then cut_short letter false b f else told f (only Nothing)
+    if b == code "\n" then cut_short letter false b f else returned f (only Nothing)
 
 -- ---- a byte, by the part that is half read
 
-abbrev pub read_in : Part → ℕ → Formats → Told
+abbrev pub read_in : Part → ℕ → Formats → Returned
 read_in parts.Keys b f = key b f
 read_in parts.Font b f = in_font b f
 read_in parts.FontMore b f = in_font_more b f
@@ -221,5 +221,5 @@ read_in (parts.Size letter) b f = in_size letter b f
 read_in parts.SizeDigits b f = in_size_digits b f
 read_in (parts.SizeIn letter) b f = in_size_in letter b f
 
-abbrev pub read : ℕ → Formats → Told
+abbrev pub read : ℕ → Formats → Returned
 read b f = read_in f.part b f

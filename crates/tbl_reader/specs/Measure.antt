@@ -103,8 +103,8 @@ overruns sures.Text cells left = nat_lt left cells
 overruns sure cells left = false
 
 -- it was told: of this table nothing more is
-abbrev pub told : Measure → Measure
-told m = record m { sure = sures.Nothing }
+abbrev pub emitted : Measure → Measure
+emitted m = record m { sure = sures.Nothing }
 
 -- the field and the space after it are taken
 abbrev pub taken : Sure → ℕ → Measure → Measure

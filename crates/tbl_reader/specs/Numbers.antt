@@ -37,5 +37,5 @@ else_at (Some place) other = Some place
 else_at None other = other
 
 -- how many bytes stand before the place where the number is aligned
-abbrev pub front : Marks → Option ℕ
-front m = else_at m.mark (else_at m.point m.digit)
+abbrev pub prefix : Marks → Option ℕ
+prefix m = else_at m.mark (else_at m.point m.digit)

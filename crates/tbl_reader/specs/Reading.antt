@@ -96,7 +96,7 @@ pub record Took {A S : Type 0} (shows : A → S → Type 0) (hears : Piece → S
   pub some : 0 < n
   pub within : n ≤ length bytes
   pub page : q ≡ (fed (take n bytes) p).page
-  pub told : Tells shows hears (fed (take n bytes) p).pieces old new
+  pub emitted : Tells shows hears (fed (take n bytes) p).pieces old new
   pub fits : Fits q
   pub lines : q.state.line ≤ p.state.line + n
 

@@ -13,7 +13,7 @@ use Rattle.tbl_reader.specs.declared.telling.Tell.TheVariants as tells
 use Rattle.tbl_reader.specs.Commands.{is_command}
 use Rattle.tbl_reader.specs.Fields.{shape_of, without_blanks_before, marks_of, is_request, place_of, cleaned, continues}
 use Rattle.tbl_reader.specs.Measure.{cells_of}
-use Rattle.tbl_reader.specs.Numbers.{front}
+use Rattle.tbl_reader.specs.Numbers.{prefix}
 use Rattle.tbl_reader.specs.Pages.{Page, Effect, effect, and_then, with_state, at_mode, forgotten, rest_of, line_of, wrong}
 use Rattle.tbl_reader.specs.States.{block_opened, formats_begun, row_begun, field_counted, is_beyond, passes_line, cells_taken}
 use Rattle.tbl_reader.specs.Telling.{Piece, piece, each}
@@ -37,8 +37,8 @@ abbrev pub solid : State → List ℕ → List ℕ
 solid s text = if s.options.nospaces then take (marks_of s.options.point text).solid text else text
 
 -- where it is aligned, if a column has numbers
-abbrev pub front_of : State → List ℕ → Option ℕ
-front_of s text = if s.formats.numeric then front (marks_of s.options.point text) else None
+abbrev pub prefix_of : State → List ℕ → Option ℕ
+prefix_of s text = if s.formats.numeric then prefix (marks_of s.options.point text) else None
 
 abbrev pub widths_wrong : Bool → State → List Piece
 widths_wrong wide s = if wide then wrong TooWide s ∷ [] else []
@@ -47,7 +47,7 @@ widths_wrong wide s = if wide then wrong TooWide s ∷ [] else []
 abbrev pub text_said : State → List ℕ → Said
 text_said s text =
     let cells = cells_of (solid s text) in
-    let field = piece (tells.Field (front_of s text)) (solid s text) in
+    let field = piece (tells.Field (prefix_of s text)) (solid s text) in
     if is_beyond s then saying s (field ∷ [])
     else saying (cells_taken cells s) (field ∷ widths_wrong (passes_line cells s) s)
 
@@ -127,8 +127,8 @@ rest_said (shapes.Mark marks.Rule) p =
     if p.state.fields == 0 then effect (rows_begun p) (piece tells.Rule [] ∷ []) else last_ended p
 rest_said shape p = last_ended p
 
-abbrev pub rest_told : Page → Effect
-rest_told p = rest_said (shape_of (trimmed p.state (rest_of p))) p
+abbrev pub rest_emitted : Page → Effect
+rest_emitted p = rest_said (shape_of (trimmed p.state (rest_of p))) p
 
 -- the row goes on in the next line, if the last backslash stands alone
 abbrev pub line_continued : Bool → Page → Effect
@@ -136,7 +136,7 @@ line_continued alone p =
     if alone
     then (let kept = take (length p.kept - 1) p.kept in
     effect (at_mode modes.Row (record p { kept = kept; start = length kept })) [])
-    else rest_told p
+    else rest_emitted p
 
 -- two backslashes in it stand for one, and a comment ends it
 abbrev pub line_cleaned : Page → Page

@@ -31,7 +31,7 @@ pub record Took {A S : Type 0} (shows : A → S → Type 0) (hears : Piece → S
   pub came : Came a bytes b
   pub count : length bytes ≡ n
   pub page : q ≡ (fed bytes p).page
-  pub told : Tells shows hears (fed bytes p).pieces old new
+  pub emitted : Tells shows hears (fed bytes p).pieces old new
   pub fits : Fits q
   pub lines : q.state.line ≤ p.state.line + n
 
@@ -41,7 +41,7 @@ pub record Ended {A S : Type 0} (shows : A → S → Type 0) (hears : Piece → 
   pub came : Came a [] b
   pub ends : Ends a b
   pub page : q ≡ (finished p).page
-  pub told : Tells shows hears (finished p).pieces old new
+  pub emitted : Tells shows hears (finished p).pieces old new
 
 abbrev pub Turns : {A S : Type 0} → (A → S → Type 0) → (Piece → S → S) → Option Supply → Option Supply → Page
     → Page → A → A → Turn → Type 0
@@ -67,7 +67,7 @@ pub record Stands {A S : Type 0} (shows : A → S → Type 0) (hears : Piece →
   pub came : Came first bytes supply
   pub count : length bytes ≡ taken
   pub page : p ≡ (fed bytes (first_page l cells)).page
-  pub told : Tells shows hears (fed bytes (first_page l cells)).pieces old now
+  pub emitted : Tells shows hears (fed bytes (first_page l cells)).pieces old now
   pub fits : Fits p
   pub lines : p.state.line ≤ taken + 1
 
@@ -77,7 +77,7 @@ pub record IsDone {A S : Type 0} (shows : A → S → Type 0) (hears : Piece →
   pub bytes : List ℕ
   pub came : Came first bytes last
   pub ends : Ends first last
-  pub told : Tells shows hears (page_said l cells bytes) old new
+  pub emitted : Tells shows hears (page_said l cells bytes) old new
   pub few : length (page_said l cells bytes) ≤ 16 * (length bytes + 1)
 
 -- so many bytes came, and what they say was told, but of what is half read
@@ -86,7 +86,7 @@ pub record IsCut {A S : Type 0} (shows : A → S → Type 0) (hears : Piece → 
   pub bytes : List ℕ
   pub came : Came first bytes last
   pub count : length bytes ≡ at
-  pub told : Tells shows hears (fed bytes (first_page l cells)).pieces old new
+  pub emitted : Tells shows hears (fed bytes (first_page l cells)).pieces old new
   pub few : length (fed bytes (first_page l cells)).pieces ≤ 16 * length bytes
 
 -- some bytes came, and what they say was told, without the end or with it, to one who could not put all of it out
@@ -94,7 +94,7 @@ pub record IsBroken {A S : Type 0} (shows : A → S → Type 0) (hears : Piece �
     (first last : Option Supply) (old new : A) : Type 0 where
   pub bytes : List ℕ
   pub came : Came first bytes last
-  pub told : Tells shows hears (fed bytes (first_page l cells)).pieces old new ⊎ Tells shows hears
+  pub emitted : Tells shows hears (fed bytes (first_page l cells)).pieces old new ⊎ Tells shows hears
       (page_said l cells bytes) old new
   pub few : length (page_said l cells bytes) ≤ 16 * (length bytes + 1)
 

@@ -9,7 +9,7 @@ use Rattle.tbl_reader.specs.declared.state.Mode.TheVariants as modes
 use Rattle.tbl_reader.specs.declared.state.State.{State}
 use Rattle.tbl_reader.specs.declared.widths.Line.{Line}
 use Rattle.tbl_reader.specs.Formats.{first_formats}
-use Rattle.tbl_reader.specs.Measure.{begun, with_row, overruns, told, taken, is_wider}
+use Rattle.tbl_reader.specs.Measure.{begun, with_row, overruns, emitted, taken, is_wider}
 use Rattle.tbl_reader.specs.Numbers.{one_more}
 use Rattle.tbl_reader.specs.Options.{no_options}
 
@@ -70,7 +70,7 @@ passes_line cells s = overruns s.measure.sure cells s.measure.left
 abbrev pub cells_taken : ℕ → State → State
 cells_taken cells s =
     record s {
-      measure = if passes_line cells s then told s.measure
+      measure = if passes_line cells s then emitted s.measure
           else taken s.measure.sure cells s.measure;
     }
 
@@ -99,5 +99,5 @@ with_formats f line s =
     record s {
       formats = f;
       measure = if is_too_wide (wrong_with f line s)
-          then told s.measure else s.measure;
+          then emitted s.measure else s.measure;
     }

@@ -6,7 +6,7 @@ ghost use Rattle.tbl_reader.specs.Telling.{Tells};
 use super::command::is_command;
 use super::complaint::Kind;
 use super::field::without_blanks_before;
-use super::reader::{Reader, behind};
+use super::reader::{Reader, tail_from};
 use super::state::Mode;
 use super::telling::{Setter, Tell};
 use nr_units::Name;
@@ -27,7 +27,7 @@ fn rest_at(line: &[u8]) -> usize
     ensures value { result ≡ specs.rest_at line.now }
     ensures within { result ≤ length line.now }
 {
-    line.len() - without_blanks_before(behind(line, 2)).len()
+    line.len() - without_blanks_before(tail_from(line, 2)).len()
 }
 
 /// Whether a byte prints in ASCII, and is no blank.
@@ -57,7 +57,7 @@ impl Reader {
     /// A line in a text block ends.
     pub(crate) fn block_line<S: Setter>(&mut self, setter: &mut S)
         ensures page { self.new ≡ (specs.block_line self.old).page }
-        ensures told { Tells S.shows S.hears (specs.block_line self.old).pieces setter.old setter.new }
+        ensures emitted { Tells S.shows S.hears (specs.block_line self.old).pieces setter.old setter.new }
     {
         if ends_block(self.kept.as_slice()) {
             self.block_ends(setter);
@@ -83,7 +83,7 @@ impl Reader {
     /// A line of a text block is told.
     fn tells_block_line<S: Setter>(&mut self, setter: &mut S)
         ensures page { self.new ≡ (specs.block_said self.old).page }
-        ensures told { Tells S.shows S.hears (specs.block_said self.old).pieces setter.old setter.new }
+        ensures emitted { Tells S.shows S.hears (specs.block_said self.old).pieces setter.old setter.new }
     {
         self.reports_unset(setter);
         setter.tell(Tell::BlockText, self.kept.as_slice());
@@ -94,7 +94,7 @@ impl Reader {
     /// The beginning of such a line is told, the rest of which is not kept.
     fn tells_line_begun<S: Setter>(&mut self, setter: &mut S)
         ensures page { self.new ≡ (specs.block_line_begun self.old).page }
-        ensures told { Tells S.shows S.hears (specs.block_line_begun self.old).pieces setter.old setter.new }
+        ensures emitted { Tells S.shows S.hears (specs.block_line_begun self.old).pieces setter.old setter.new }
     {
         self.reports_unset(setter);
         setter.tell(Tell::BlockText, self.kept.as_slice());
@@ -105,7 +105,7 @@ impl Reader {
     /// A text block has ended: what stands after `T}` belongs to the row.
     fn leaves_block<S: Setter>(&mut self, setter: &mut S) -> bool
         ensures page { self.new ≡ (specs.block_left self.old).page }
-        ensures told { Tells S.shows S.hears (specs.block_left self.old).pieces setter.old setter.new }
+        ensures emitted { Tells S.shows S.hears (specs.block_left self.old).pieces setter.old setter.new }
         ensures more { result ≡ specs.goes_on self.old }
     {
         setter.tell(Tell::BlockEnd, b"");
@@ -124,7 +124,7 @@ impl Reader {
     /// A line that begins with `T}` ends.
     fn block_ends<S: Setter>(&mut self, setter: &mut S)
         ensures page { self.new ≡ (specs.block_ended self.old).page }
-        ensures told { Tells S.shows S.hears (specs.block_ended self.old).pieces setter.old setter.new }
+        ensures emitted { Tells S.shows S.hears (specs.block_ended self.old).pieces setter.old setter.new }
     {
         if self.leaves_block(setter) {
             self.row_line(setter);
@@ -136,7 +136,7 @@ impl Reader {
     /// A text block has no end: it ends with its row.
     pub(crate) fn closes_block<S: Setter>(&mut self, setter: &mut S)
         ensures page { self.new ≡ (specs.block_closed self.old).page }
-        ensures told { Tells S.shows S.hears (specs.block_closed self.old).pieces setter.old setter.new }
+        ensures emitted { Tells S.shows S.hears (specs.block_closed self.old).pieces setter.old setter.new }
     {
         self.state
             .complains(Kind::OpenBlock(self.state.block), setter);
@@ -147,7 +147,7 @@ impl Reader {
     /// A line in a text block is longer than what is kept.
     pub(crate) fn block_overflows<S: Setter>(&mut self, setter: &mut S)
         ensures page { self.new ≡ (specs.block_overflown self.old).page }
-        ensures told { Tells S.shows S.hears (specs.block_overflown self.old).pieces setter.old setter.new }
+        ensures emitted { Tells S.shows S.hears (specs.block_overflown self.old).pieces setter.old setter.new }
     {
         if ends_block(self.kept.as_slice()) {
             self.leaves_block(setter);

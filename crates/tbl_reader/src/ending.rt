@@ -27,7 +27,7 @@ impl Reader {
     /// The end of the input, in a table whose last line has ended or begun.
     fn ends_in_table<S: Setter>(&mut self, setter: &mut S)
         ensures page { self.new ≡ (specs.closed self.old).page }
-        ensures told { Tells S.shows S.hears (specs.closed self.old).pieces setter.old setter.new }
+        ensures emitted { Tells S.shows S.hears (specs.closed self.old).pieces setter.old setter.new }
     {
         match self.state.mode {
             Mode::Passing(_) => {}
@@ -48,7 +48,7 @@ impl Reader {
     /// The end of the input, before the formats end.
     fn ends_in_head<S: Setter>(&mut self, setter: &mut S)
         ensures page { self.new ≡ (specs.head_at_end self.old).page }
-        ensures told { Tells S.shows S.hears (specs.head_at_end self.old).pieces setter.old setter.new }
+        ensures emitted { Tells S.shows S.hears (specs.head_at_end self.old).pieces setter.old setter.new }
     {
         self.complains_at_end(Kind::NoFormat, true, setter);
         setter.tell(Tell::Plain, b"");
@@ -59,7 +59,7 @@ impl Reader {
     /// The end of the input, in a row.
     fn ends_in_row<S: Setter>(&mut self, setter: &mut S)
         ensures page { self.new ≡ (specs.row_at_end self.old).page }
-        ensures told { Tells S.shows S.hears (specs.row_at_end self.old).pieces setter.old setter.new }
+        ensures emitted { Tells S.shows S.hears (specs.row_at_end self.old).pieces setter.old setter.new }
     {
         self.complains_at_end(Kind::OpenTable(self.state.begun), true, setter);
         self.tell_last_field(setter);
@@ -70,7 +70,7 @@ impl Reader {
     /// The end of the input, in a text block.
     fn ends_in_block<S: Setter>(&mut self, setter: &mut S)
         ensures page { self.new ≡ (specs.block_at_end self.old).page }
-        ensures told { Tells S.shows S.hears (specs.block_at_end self.old).pieces setter.old setter.new }
+        ensures emitted { Tells S.shows S.hears (specs.block_at_end self.old).pieces setter.old setter.new }
     {
         self.complains_at_end(Kind::OpenBlock(self.state.block), true, setter);
         setter.tell(Tell::BlockEnd, b"");
@@ -105,7 +105,7 @@ impl Reader {
         requires lines { self.old.state.line + 1 < 2 ^ 64 }
         requires fits { Fits self.old }
         ensures page { self.new ≡ (specs.line_closed self.old).page }
-        ensures told { Tells S.shows S.hears (specs.line_closed self.old).pieces setter.old setter.new }
+        ensures emitted { Tells S.shows S.hears (specs.line_closed self.old).pieces setter.old setter.new }
     {
         if self.is_open() {
             self.read(b"\n", setter);
@@ -117,7 +117,7 @@ impl Reader {
         requires lines { self.old.state.line + 1 < 2 ^ 64 }
         requires fits { Fits self.old }
         ensures page { self.new ≡ (specs.finished self.old).page }
-        ensures told { Tells S.shows S.hears (specs.finished self.old).pieces setter.old setter.new }
+        ensures emitted { Tells S.shows S.hears (specs.finished self.old).pieces setter.old setter.new }
     {
         if self.is_begin() {
             self.complains_at_end(Kind::OpenTable(self.state.line), false, setter);
@@ -132,7 +132,7 @@ impl Reader {
         requires lines { self.old.state.line + 1 < 2 ^ 64 }
         requires fits { Fits self.old }
         ensures page { self.new ≡ (specs.next_read next self.old).page }
-        ensures told { Tells S.shows S.hears (specs.next_read next self.old).pieces setter.old setter.new }
+        ensures emitted { Tells S.shows S.hears (specs.next_read next self.old).pieces setter.old setter.new }
         ensures goes_on { specs.GoesOn next self.old self.new }
     {
         match next {

@@ -183,7 +183,7 @@ impl Formats {
 
     /// A column is added, before which a line begins or not.
     fn add_cell(&mut self, kind: u8, begins: bool) -> Called
-        ensures { specs.told self.new result ≡ specs.cell_added kind begins self.old }
+        ensures { specs.returned self.new result ≡ specs.cell_added kind begins self.old }
     {
         let bars = self.bars;
         self.many = self.many || self.cells >= COLUMNS;
@@ -203,7 +203,7 @@ impl Formats {
 
     /// A column of this kind is added, or where it can't be of it one of `l`.
     fn add_kind(&mut self, kind: u8, begins: bool) -> Called
-        ensures { specs.told self.new result ≡ specs.kind_added kind begins self.old }
+        ensures { specs.returned self.new result ≡ specs.kind_added kind begins self.old }
     {
         if self.is_bad(kind) {
             self.blames(kind);
@@ -214,7 +214,7 @@ impl Formats {
 
     /// A column comes.
     fn cell(&mut self, kind: u8) -> Called
-        ensures { specs.told self.new result ≡ specs.cell kind self.old }
+        ensures { specs.returned self.new result ≡ specs.cell kind self.old }
     {
         if self.begun {
             return self.add_kind(kind, false);
@@ -225,7 +225,7 @@ impl Formats {
 
     /// A line ends, if one has begun.
     fn line_ends(&mut self) -> Called
-        ensures { specs.told self.new result ≡ specs.line_ends self.old }
+        ensures { specs.returned self.new result ≡ specs.line_ends self.old }
     {
         if !self.begun {
             return Called::only(Call::Nothing);
@@ -238,7 +238,7 @@ impl Formats {
 
     /// A part begins, and this is called.
     fn goes_on(&mut self, part: Part, call: Call) -> Called
-        ensures { specs.told self.new result ≡ specs.going_on part call self.old }
+        ensures { specs.returned self.new result ≡ specs.going_on part call self.old }
     {
         self.part = part;
         Called::only(call)
@@ -246,7 +246,7 @@ impl Formats {
 
     /// A bar.
     fn bar(&mut self) -> Called
-        ensures { specs.told self.new result ≡ specs.bar self.old }
+        ensures { specs.returned self.new result ≡ specs.bar self.old }
     {
         self.bars = one_more(self.bars, 2);
         Called::only(Call::Nothing)
@@ -254,7 +254,7 @@ impl Formats {
 
     /// A byte that is no part of a format.
     fn bad_byte(&mut self, byte: u8) -> Called
-        ensures { specs.told self.new result ≡ specs.bad_byte byte self.old }
+        ensures { specs.returned self.new result ≡ specs.bad_byte byte self.old }
     {
         self.blames(byte);
         Called::only(Call::Nothing)
@@ -262,7 +262,7 @@ impl Formats {
 
     /// What modifies the column before it.
     fn modifier(&mut self, key: u8) -> Called
-        ensures { specs.told self.new result ≡ specs.modifier key self.old }
+        ensures { specs.returned self.new result ≡ specs.modifier key self.old }
     {
         match key {
             b'b' => Called::only(Call::Font(b'B')),
@@ -283,7 +283,7 @@ impl Formats {
 
     /// A byte where a column or a modifier may come. A point stands at the end.
     fn key(&mut self, byte: u8) -> Called
-        ensures { specs.told self.new result ≡ specs.key byte self.old }
+        ensures { specs.returned self.new result ≡ specs.key byte self.old }
     {
         match small(byte) {
             b'\n' | b',' => self.line_ends(),
@@ -299,7 +299,7 @@ impl Formats {
 
     /// A part has ended before this byte: its call ends, if it has one that is open.
     fn ended(&mut self, ends: bool, byte: u8) -> Called
-        ensures { specs.told self.new result ≡ specs.ended ends byte self.old }
+        ensures { specs.returned self.new result ≡ specs.ended ends byte self.old }
     {
         self.part = Part::Keys;
         let mut called = self.key(byte);
@@ -309,7 +309,7 @@ impl Formats {
 
     /// The part of a letter has ended before what it needs.
     fn cut_short(&mut self, letter: u8, ends: bool, byte: u8) -> Called
-        ensures { specs.told self.new result ≡ specs.cut_short letter ends byte self.old }
+        ensures { specs.returned self.new result ≡ specs.cut_short letter ends byte self.old }
     {
         self.blames(letter);
         self.ended(ends, byte)
@@ -317,14 +317,14 @@ impl Formats {
 
     /// The name of a font has ended with this letter.
     fn font(&mut self, letter: u8) -> Called
-        ensures { specs.told self.new result ≡ specs.font letter self.old }
+        ensures { specs.returned self.new result ≡ specs.font letter self.old }
     {
         self.goes_on(Part::Keys, Call::Font(font_of(letter)))
     }
 
     /// A byte after `f`.
     fn in_font(&mut self, byte: u8) -> Called
-        ensures { specs.told self.new result ≡ specs.in_font byte self.old }
+        ensures { specs.returned self.new result ≡ specs.in_font byte self.old }
     {
         match byte {
             b'(' => self.goes_on(Part::FontName(b'R'), Call::Nothing),
@@ -336,7 +336,7 @@ impl Formats {
 
     /// A byte after `f` and a letter: a capital letter or a digit is a part of the name.
     fn in_font_more(&mut self, byte: u8) -> Called
-        ensures { specs.told self.new result ≡ specs.in_font_more byte self.old }
+        ensures { specs.returned self.new result ≡ specs.in_font_more byte self.old }
     {
         if matches!(byte, b'A'..=b'Z' | b'0'..=b'9') {
             return self.font(byte);
@@ -346,7 +346,7 @@ impl Formats {
 
     /// A byte of the name of a font in parentheses.
     fn in_font_name(&mut self, last: u8, byte: u8) -> Called
-        ensures { specs.told self.new result ≡ specs.in_font_name last byte self.old }
+        ensures { specs.returned self.new result ≡ specs.in_font_name last byte self.old }
     {
         match byte {
             b')' => self.font(last),
@@ -357,7 +357,7 @@ impl Formats {
 
     /// A byte after `w`.
     fn in_width(&mut self, byte: u8) -> Called
-        ensures { specs.told self.new result ≡ specs.in_width byte self.old }
+        ensures { specs.returned self.new result ≡ specs.in_width byte self.old }
     {
         match byte {
             b'(' => self.goes_on(Part::WidthIn(false), Call::Nothing),
@@ -369,7 +369,7 @@ impl Formats {
 
     /// A width in parentheses ends, in which a digit or an escape stands or not.
     fn width_ends(&mut self, said: bool) -> Called
-        ensures { specs.told self.new result ≡ specs.width_ended said self.old }
+        ensures { specs.returned self.new result ≡ specs.width_ended said self.old }
     {
         if !said {
             self.blames(b'w');
@@ -379,7 +379,7 @@ impl Formats {
 
     /// A byte of it.
     fn in_width_in(&mut self, said: bool, byte: u8) -> Called
-        ensures { specs.told self.new result ≡ specs.in_width_in said byte self.old }
+        ensures { specs.returned self.new result ≡ specs.in_width_in said byte self.old }
     {
         match byte {
             b')' => self.width_ends(said),
@@ -391,7 +391,7 @@ impl Formats {
 
     /// A byte among digits.
     fn in_digits(&mut self, byte: u8) -> Called
-        ensures { specs.told self.new result ≡ specs.in_digits byte self.old }
+        ensures { specs.returned self.new result ≡ specs.in_digits byte self.old }
     {
         match byte {
             b'0'..=b'9' => Called::only(Call::Byte(byte)),
@@ -401,7 +401,7 @@ impl Formats {
 
     /// A byte after `p`, `v` or `m`.
     fn in_size(&mut self, letter: u8, byte: u8) -> Called
-        ensures { specs.told self.new result ≡ specs.in_size letter byte self.old }
+        ensures { specs.returned self.new result ≡ specs.in_size letter byte self.old }
     {
         match byte {
             b'(' => self.goes_on(Part::SizeIn(letter), Call::Nothing),
@@ -412,7 +412,7 @@ impl Formats {
 
     /// A byte among the digits after `p` or `v`.
     fn in_size_digits(&mut self, byte: u8) -> Called
-        ensures { specs.told self.new result ≡ specs.in_size_digits byte self.old }
+        ensures { specs.returned self.new result ≡ specs.in_size_digits byte self.old }
     {
         match byte {
             b'0'..=b'9' => Called::only(Call::Nothing),
@@ -422,7 +422,7 @@ impl Formats {
 
     /// A byte in parentheses after one of these.
     fn in_size_in(&mut self, letter: u8, byte: u8) -> Called
-        ensures { specs.told self.new result ≡ specs.in_size_in letter byte self.old }
+        ensures { specs.returned self.new result ≡ specs.in_size_in letter byte self.old }
     {
         match byte {
             b')' => self.goes_on(Part::Keys, Call::Nothing),
@@ -433,7 +433,7 @@ impl Formats {
 
     /// A byte comes.
     pub(crate) fn read(&mut self, byte: u8) -> Called
-        ensures { specs.told self.new result ≡ specs.read byte self.old }
+        ensures { specs.returned self.new result ≡ specs.read byte self.old }
     {
         match self.part {
             Part::Keys => self.key(byte),

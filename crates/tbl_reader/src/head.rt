@@ -44,7 +44,7 @@ fn is_dotted(line: &[u8]) -> bool
 /// Tells what formats say, and gives what was read of them with the newline after them.
 fn tell_formats<S: Setter>(first: Formats, text: &[u8], setter: &mut S) -> Formats
     ensures formats { result ≡ lines.formats_after first (lines.with_newline text.now) }
-    ensures told { Tells S.shows S.hears (lines.formats_said first (lines.with_newline text.now))
+    ensures emitted { Tells S.shows S.hears (lines.formats_said first (lines.with_newline text.now))
         setter.old setter.new }
 {
     let mut formats = first;
@@ -61,7 +61,7 @@ impl Reader {
     /// A line of options or formats ends.
     pub(crate) fn head_line<S: Setter>(&mut self, setter: &mut S)
         ensures page { self.new ≡ (lines.head_line self.old).page }
-        ensures told { Tells S.shows S.hears (lines.head_line self.old).pieces setter.old setter.new }
+        ensures emitted { Tells S.shows S.hears (lines.head_line self.old).pieces setter.old setter.new }
     {
         if is_command(self.line(), b'E') {
             self.head_ends(setter);
@@ -74,7 +74,7 @@ impl Reader {
     /// Options are read, if the line may have some.
     fn options_line<S: Setter>(&mut self, setter: &mut S)
         ensures page { self.new ≡ (lines.options_line self.old).page }
-        ensures told { Tells S.shows S.hears (lines.options_line self.old).pieces setter.old setter.new }
+        ensures emitted { Tells S.shows S.hears (lines.options_line self.old).pieces setter.old setter.new }
     {
         if !self.state.first {
             return;
@@ -89,7 +89,7 @@ impl Reader {
     fn options_end_at<S: Setter>(&mut self, end: usize, setter: &mut S)
         requires { end < length self.old.kept }
         ensures page { self.new ≡ (lines.options_split (Some end) self.old).page }
-        ensures told { Tells S.shows S.hears (lines.options_split (Some end) self.old).pieces setter.old
+        ensures emitted { Tells S.shows S.hears (lines.options_split (Some end) self.old).pieces setter.old
             setter.new }
     {
         let options = options_of(&self.kept.as_slice()[..end]);
@@ -102,7 +102,7 @@ impl Reader {
     /// A line of formats ends, and perhaps all of them.
     fn formats_line<S: Setter>(&mut self, setter: &mut S)
         ensures page { self.new ≡ (lines.formats_line self.old).page }
-        ensures told { Tells S.shows S.hears (lines.formats_line self.old).pieces setter.old setter.new }
+        ensures emitted { Tells S.shows S.hears (lines.formats_line self.old).pieces setter.old setter.new }
     {
         if is_dotted(self.line()) {
             self.formats_end(setter);
@@ -117,7 +117,7 @@ impl Reader {
     /// The formats end with this line.
     fn formats_end<S: Setter>(&mut self, setter: &mut S)
         ensures page { self.new ≡ (lines.formats_ended self.old).page }
-        ensures told { Tells S.shows S.hears (lines.formats_ended self.old).pieces setter.old setter.new }
+        ensures emitted { Tells S.shows S.hears (lines.formats_ended self.old).pieces setter.old setter.new }
     {
         let formats = tell_formats(self.state.formats, self.rest(), setter);
         setter.tell(Tell::FormatsEnd, b"");
@@ -141,7 +141,7 @@ impl Reader {
     /// This is wrong with the formats, or nothing: rows begin with the next line, or the table isn't set.
     fn judges_formats<S: Setter>(&mut self, wrong: Option<Kind>, setter: &mut S)
         ensures page { self.new ≡ (lines.formats_judged wrong self.old).page }
-        ensures told { Tells S.shows S.hears (lines.formats_judged wrong self.old).pieces setter.old
+        ensures emitted { Tells S.shows S.hears (lines.formats_judged wrong self.old).pieces setter.old
             setter.new }
     {
         match wrong {
@@ -158,7 +158,7 @@ impl Reader {
     /// The table isn't set, and a line ends that is kept.
     fn gives_up_line<S: Setter>(&mut self, kind: Kind, setter: &mut S)
         ensures page { self.new ≡ (lines.given_up_line kind self.old).page }
-        ensures told { Tells S.shows S.hears (lines.given_up_line kind self.old).pieces setter.old
+        ensures emitted { Tells S.shows S.hears (lines.given_up_line kind self.old).pieces setter.old
             setter.new }
     {
         self.gives_up(kind, setter);
@@ -169,7 +169,7 @@ impl Reader {
     /// `.TE` comes before the formats end.
     fn head_ends<S: Setter>(&mut self, setter: &mut S)
         ensures page { self.new ≡ (lines.head_ended self.old).page }
-        ensures told { Tells S.shows S.hears (lines.head_ended self.old).pieces setter.old setter.new }
+        ensures emitted { Tells S.shows S.hears (lines.head_ended self.old).pieces setter.old setter.new }
     {
         self.gives_up_line(Kind::NoFormat, setter);
         self.state.mode = Mode::Passing(Start::Nothing);
@@ -179,7 +179,7 @@ impl Reader {
     /// There is no room for more options or formats.
     pub(crate) fn head_overflows<S: Setter>(&mut self, setter: &mut S)
         ensures page { self.new ≡ (given_up FormatsLimit self.old).page }
-        ensures told { Tells S.shows S.hears (given_up FormatsLimit self.old).pieces setter.old setter.new }
+        ensures emitted { Tells S.shows S.hears (given_up FormatsLimit self.old).pieces setter.old setter.new }
     {
         self.gives_up(Kind::FormatsLimit, setter);
     }

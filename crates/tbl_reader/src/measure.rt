@@ -145,19 +145,19 @@ impl Cells {
 
 /// How many bytes at the front of a text take a cell each, which most texts have alone.
 #[tactic(auto, using(crate::proofs::Plain::plain_next))]
-fn plain_front(text: &[u8]) -> usize
+fn plain_prefix(text: &[u8]) -> usize
     ensures within { result ≤ length text.now }
     ensures cells { specs.all_cells (drop result text.now) (record specs.first_cells { count = result })
         ≡ specs.all_cells text.now specs.first_cells }
 {
-    let mut front = 0;
+    let mut prefix = 0;
     for byte in text {
         if !is_plain(*byte) {
-            return front;
+            return prefix;
         }
-        front += 1;
+        prefix += 1;
     }
-    front
+    prefix
 }
 
 /// How many cells a field surely needs.
@@ -165,9 +165,9 @@ pub(crate) fn cells_of(text: &[u8]) -> usize
     ensures value { result ≡ specs.cells_of text.now }
     ensures few { result ≤ length text.now }
 {
-    let front = plain_front(text);
-    let rest = &text[front..];
-    let mut cells = Cells::plain(front);
+    let prefix = plain_prefix(text);
+    let rest = &text[prefix..];
+    let mut cells = Cells::plain(prefix);
     for byte in rest {
         cells = cells.with(*byte);
     }
@@ -234,8 +234,8 @@ impl Measure {
     }
 
     /// That was told.
-    pub(crate) fn told(self) -> Measure
-        ensures { result ≡ specs.told self }
+    pub(crate) fn emitted(self) -> Measure
+        ensures { result ≡ specs.emitted self }
     {
         Measure {
             sure: Sure::Nothing,

@@ -83,8 +83,8 @@ impl Marks {
     }
 
     /// How many bytes stand before the place.
-    pub(crate) fn front(self) -> Option<usize>
-        ensures { result ≡ specs.front self }
+    pub(crate) fn prefix(self) -> Option<usize>
+        ensures { result ≡ specs.prefix self }
     {
         match (self.mark, self.point, self.digit) {
             (Some(place), _, _) => Some(place),

@@ -106,12 +106,12 @@ impl Reader {
     {
         match self.state.mode {
             Mode::Passing(_) | Mode::Plain(_) | Mode::BlockLine => 0,
-            _ => self.keep_front(bytes),
+            _ => self.keep_prefix(bytes),
         }
     }
 
     /// The same, in a line that is kept.
-    fn keep_front(&mut self, bytes: &[u8]) -> usize
+    fn keep_prefix(&mut self, bytes: &[u8]) -> usize
         requires kept { is_kept self.old.state.mode ≡ true }
         requires fits { Fits self.old }
         ensures within { result ≤ length bytes.now }

@@ -96,14 +96,14 @@ impl Reader {
     pub(crate) fn rest(&self) -> &[u8]
         ensures { result.now ≡ rest_of self.now }
     {
-        behind(self.kept.as_slice(), self.from)
+        tail_from(self.kept.as_slice(), self.from)
     }
 
     /// What is kept of the line.
     pub(crate) fn line(&self) -> &[u8]
         ensures { result.now ≡ line_of self.now }
     {
-        behind(self.kept.as_slice(), self.start)
+        tail_from(self.kept.as_slice(), self.start)
     }
 
     /// Nothing is kept.
@@ -150,7 +150,7 @@ impl Reader {
     fn passes_byte<S: Setter>(&mut self, start: Start, byte: u8, setter: &mut S)
         requires { self.old.state.line + 1 < 2 ^ 64 }
         ensures page { self.new ≡ (specs.passed byte start self.old).page }
-        ensures told { Tells S.shows S.hears (specs.passed byte start self.old).pieces setter.old setter.new }
+        ensures emitted { Tells S.shows S.hears (specs.passed byte start self.old).pieces setter.old setter.new }
     {
         setter.tell(Tell::Pass, &[byte]);
         if byte == b'\n' {
@@ -205,7 +205,7 @@ impl Reader {
     fn passed_line<S: Setter>(&mut self, start: Start, setter: &mut S)
         requires { self.old.state.line + 1 < 2 ^ 64 }
         ensures page { self.new ≡ (specs.line_passed (begins_command start) self.old).page }
-        ensures told { Tells S.shows S.hears (specs.line_passed (begins_command start) self.old).pieces
+        ensures emitted { Tells S.shows S.hears (specs.line_passed (begins_command start) self.old).pieces
             setter.old setter.new }
     {
         self.state.line += 1;
@@ -233,7 +233,7 @@ impl Reader {
     fn passes_plain_byte<S: Setter>(&mut self, start: Start, byte: u8, setter: &mut S)
         requires { self.old.state.line + 1 < 2 ^ 64 }
         ensures page { self.new ≡ (specs.plain_passed byte start self.old).page }
-        ensures told { Tells S.shows S.hears (specs.plain_passed byte start self.old).pieces setter.old
+        ensures emitted { Tells S.shows S.hears (specs.plain_passed byte start self.old).pieces setter.old
             setter.new }
     {
         setter.tell(Tell::Pass, &[byte]);
@@ -247,7 +247,7 @@ impl Reader {
     fn passed_plain_line<S: Setter>(&mut self, start: Start, setter: &mut S)
         requires { self.old.state.line + 1 < 2 ^ 64 }
         ensures page { self.new ≡ (specs.plain_line_passed (begins_command start) self.old).page }
-        ensures told { Tells S.shows S.hears (specs.plain_line_passed (begins_command start) self.old).pieces
+        ensures emitted { Tells S.shows S.hears (specs.plain_line_passed (begins_command start) self.old).pieces
             setter.old setter.new }
     {
         self.state.line += 1;
@@ -290,13 +290,13 @@ impl Reader {
             self.kept_line_ends(setter);
             return 1;
         }
-        let count = self.keeps_front(&bytes[..len]);
+        let count = self.keeps_prefix(&bytes[..len]);
         self.kept_more(setter);
         count
     }
 
     /// Bytes that come are kept, one more than may be at most: tells how many.
-    fn keeps_front(&mut self, bytes: &[u8]) -> usize
+    fn keeps_prefix(&mut self, bytes: &[u8]) -> usize
         requires some { 0 < length bytes.now }
         requires fits { reading.Fits self.old }
         ensures some { 0 < result }
@@ -316,7 +316,7 @@ impl Reader {
         requires kept { reading.is_kept self.old.state.mode ≡ true }
         requires fits { reading.Fits self.old }
         ensures page { self.new ≡ (reading.line_ended self.old).page }
-        ensures told { Tells S.shows S.hears (reading.line_ended self.old).pieces setter.old setter.new }
+        ensures emitted { Tells S.shows S.hears (reading.line_ended self.old).pieces setter.old setter.new }
     {
         self.line_ends(setter);
         self.state.line += 1;
@@ -325,7 +325,7 @@ impl Reader {
     /// More of a line is kept than there was, or more than may be.
     fn kept_more<S: Setter>(&mut self, setter: &mut S)
         ensures page { self.new ≡ (reading.kept_more self.old).page }
-        ensures told { Tells S.shows S.hears (reading.kept_more self.old).pieces setter.old setter.new }
+        ensures emitted { Tells S.shows S.hears (reading.kept_more self.old).pieces setter.old setter.new }
     {
         if self.kept.len() > self.limit() {
             self.overflows(setter);
@@ -335,7 +335,7 @@ impl Reader {
     /// A line that was kept ends.
     fn line_ends<S: Setter>(&mut self, setter: &mut S)
         ensures page { self.new ≡ (reading.line_ended_in self.old.state.mode self.old).page }
-        ensures told { Tells S.shows S.hears (reading.line_ended_in self.old.state.mode self.old).pieces
+        ensures emitted { Tells S.shows S.hears (reading.line_ended_in self.old.state.mode self.old).pieces
             setter.old setter.new }
     {
         match self.state.mode {
@@ -350,7 +350,7 @@ impl Reader {
     /// More bytes come than may be kept.
     fn overflows<S: Setter>(&mut self, setter: &mut S)
         ensures page { self.new ≡ (reading.overflown self.old).page }
-        ensures told { Tells S.shows S.hears (reading.overflown self.old).pieces setter.old setter.new }
+        ensures emitted { Tells S.shows S.hears (reading.overflown self.old).pieces setter.old setter.new }
     {
         match self.state.mode {
             Mode::Head => self.head_overflows(setter),
@@ -363,7 +363,7 @@ impl Reader {
     /// The line of `.TE`, so far: the rest of it passes.
     pub(crate) fn long_end<S: Setter>(&mut self, setter: &mut S)
         ensures page { self.new ≡ (rows.long_end self.old).page }
-        ensures told { Tells S.shows S.hears (rows.long_end self.old).pieces setter.old setter.new }
+        ensures emitted { Tells S.shows S.hears (rows.long_end self.old).pieces setter.old setter.new }
     {
         setter.tell(Tell::TableEnd, b"");
         setter.tell(Tell::Pass, self.kept.as_slice());
@@ -374,7 +374,7 @@ impl Reader {
     /// The line of `.TE`.
     pub(crate) fn table_ends<S: Setter>(&mut self, setter: &mut S)
         ensures page { self.new ≡ (rows.table_ended self.old).page }
-        ensures told { Tells S.shows S.hears (rows.table_ended self.old).pieces setter.old setter.new }
+        ensures emitted { Tells S.shows S.hears (rows.table_ended self.old).pieces setter.old setter.new }
     {
         setter.tell(Tell::TableEnd, b"");
         setter.tell(Tell::Pass, self.kept.as_slice());
@@ -386,7 +386,7 @@ impl Reader {
     /// The table isn't set further: what is kept of it stands as it is, from here on.
     pub(crate) fn gives_up<S: Setter>(&mut self, kind: Kind, setter: &mut S)
         ensures page { self.new ≡ (specs.given_up kind self.old).page }
-        ensures told { Tells S.shows S.hears (specs.given_up kind self.old).pieces setter.old setter.new }
+        ensures emitted { Tells S.shows S.hears (specs.given_up kind self.old).pieces setter.old setter.new }
     {
         self.state.complains(kind, setter);
         setter.tell(Tell::Plain, b"");
@@ -413,7 +413,7 @@ impl Reader {
 }
 
 /// What stands after so many bytes.
-pub(crate) fn behind(bytes: &[u8], from: usize) -> &[u8]
+pub(crate) fn tail_from(bytes: &[u8], from: usize) -> &[u8]
     ensures { result.now ≡ drop from bytes.now }
 {
     if from < bytes.len() {

@@ -10,7 +10,7 @@ use super::complaint::Kind;
 use super::field::{Mark, Shape, marks_of, shape_of, without_blanks_before};
 use super::measure::cells_of;
 use super::numbers::is_digit;
-use super::reader::{Reader, behind};
+use super::reader::{Reader, tail_from};
 use super::state::{Mode, State};
 use super::telling::{Setter, Tell};
 use nr_vectors::FixedVec;
@@ -107,7 +107,7 @@ fn cut_comment(kept: &mut FixedVec<u8>, start: usize) -> bool
     ensures cut { result ≡ specs.has_comment (drop start kept.old.items) }
     ensures room { kept.new.capacity ≡ kept.old.capacity }
 {
-    match comment_in(behind(kept.as_slice(), start)) {
+    match comment_in(tail_from(kept.as_slice(), start)) {
         Some(at) => {
             kept.truncate(start + at);
             true
@@ -123,7 +123,7 @@ fn clean_line(kept: &mut FixedVec<u8>, start: usize) -> bool
     ensures alone { result ≡ specs.continues (drop start kept.old.items) }
     ensures room { kept.new.capacity ≡ kept.old.capacity }
 {
-    if place_of(b'\\', behind(kept.as_slice(), start)).is_none() {
+    if place_of(b'\\', tail_from(kept.as_slice(), start)).is_none() {
         return false;
     }
     let alone = pair_backslashes(kept, start);
@@ -156,11 +156,11 @@ impl State {
     }
 
     /// How many bytes of a field stand before the place where it is aligned, if a column has numbers.
-    fn front(&self, text: &[u8]) -> Option<usize>
-        ensures { result ≡ lines.front_of self.now text.now }
+    fn prefix(&self, text: &[u8]) -> Option<usize>
+        ensures { result ≡ lines.prefix_of self.now text.now }
     {
         if self.formats.numeric {
-            marks_of(text, self.options.point).front()
+            marks_of(text, self.options.point).prefix()
         } else {
             None
         }
@@ -169,11 +169,11 @@ impl State {
     /// A field of text is told.
     fn tell_text<S: Setter>(&mut self, text: &[u8], setter: &mut S)
         ensures state { self.new ≡ (lines.text_said self.old text.now).state }
-        ensures told { Tells S.shows S.hears (lines.text_said self.old text.now).pieces setter.old
+        ensures emitted { Tells S.shows S.hears (lines.text_said self.old text.now).pieces setter.old
             setter.new }
     {
         let solid = self.solid(text);
-        setter.tell(Tell::Field(self.front(text)), solid);
+        setter.tell(Tell::Field(self.prefix(text)), solid);
         if !self.is_beyond() && self.passes_line(cells_of(solid)) {
             self.complains(Kind::TooWide, setter);
         }
@@ -182,7 +182,7 @@ impl State {
     /// A field of this shape is told.
     fn tell_shape<S: Setter>(&mut self, shape: Shape, text: &[u8], setter: &mut S)
         ensures state { self.new ≡ (lines.shape_said shape self.old text.now).state }
-        ensures told { Tells S.shows S.hears (lines.shape_said shape self.old text.now).pieces setter.old
+        ensures emitted { Tells S.shows S.hears (lines.shape_said shape self.old text.now).pieces setter.old
             setter.new }
     {
         match shape {
@@ -195,7 +195,7 @@ impl State {
     /// A field in a column is told.
     fn tell_field<S: Setter>(&mut self, text: &[u8], setter: &mut S)
         ensures state { self.new ≡ (lines.field_said self.old text.now).state }
-        ensures told { Tells S.shows S.hears (lines.field_said self.old text.now).pieces setter.old
+        ensures emitted { Tells S.shows S.hears (lines.field_said self.old text.now).pieces setter.old
             setter.new }
     {
         let text = self.trimmed(text);
@@ -206,7 +206,7 @@ impl State {
     /// The last field of a row is told; one beyond the columns is text, or nothing.
     pub(crate) fn tell_last<S: Setter>(&mut self, text: &[u8], setter: &mut S)
         ensures state { self.new ≡ (lines.last_said self.old text.now).state }
-        ensures told { Tells S.shows S.hears (lines.last_said self.old text.now).pieces setter.old
+        ensures emitted { Tells S.shows S.hears (lines.last_said self.old text.now).pieces setter.old
             setter.new }
     {
         if !self.is_beyond() {
@@ -236,7 +236,7 @@ impl Reader {
     /// A line between rows ends.
     pub(crate) fn line_between<S: Setter>(&mut self, setter: &mut S)
         ensures page { self.new ≡ (lines.line_between self.old).page }
-        ensures told { Tells S.shows S.hears (lines.line_between self.old).pieces setter.old setter.new }
+        ensures emitted { Tells S.shows S.hears (lines.line_between self.old).pieces setter.old setter.new }
     {
         if is_command(self.kept.as_slice(), b'E') {
             self.table_ends(setter);
@@ -255,7 +255,7 @@ impl Reader {
     /// The fields of a line that something ends that separates them.
     fn tell_ended<S: Setter>(&mut self, setter: &mut S)
         ensures page { self.new ≡ (lines.all_ended self.old).page }
-        ensures told { Tells S.shows S.hears (lines.all_ended self.old).pieces setter.old setter.new }
+        ensures emitted { Tells S.shows S.hears (lines.all_ended self.old).pieces setter.old setter.new }
     {
         for _ in self.state.fields..self.state.formats.columns {
             match place_of(self.state.options.tab, self.line()) {
@@ -269,11 +269,11 @@ impl Reader {
     fn tell_ended_at<S: Setter>(&mut self, len: usize, setter: &mut S)
         requires { self.old.start + len < length self.old.kept }
         ensures page { self.new ≡ lines.after_field len self.old }
-        ensures told { Tells S.shows S.hears (lines.next_said len self.old).pieces setter.old setter.new }
+        ensures emitted { Tells S.shows S.hears (lines.next_said len self.old).pieces setter.old setter.new }
     {
         let kept = self.kept.as_slice();
         let end = self.start + len;
-        let text = behind(&kept[..end], self.from);
+        let text = tail_from(&kept[..end], self.from);
         self.state.tell_field(text, setter);
         self.from = end + 1;
         self.start = end + 1;
@@ -290,7 +290,7 @@ impl Reader {
     /// A line of a row ends.
     pub(crate) fn row_line<S: Setter>(&mut self, setter: &mut S)
         ensures page { self.new ≡ (lines.row_line self.old).page }
-        ensures told { Tells S.shows S.hears (lines.row_line self.old).pieces setter.old setter.new }
+        ensures emitted { Tells S.shows S.hears (lines.row_line self.old).pieces setter.old setter.new }
     {
         let alone = self.cleans_line();
         self.tell_ended(setter);
@@ -300,7 +300,7 @@ impl Reader {
     /// The row goes on in the next line, if the last backslash of this one stands alone, or ends.
     fn goes_on<S: Setter>(&mut self, alone: bool, setter: &mut S)
         ensures page { self.new ≡ (lines.line_continued alone self.old).page }
-        ensures told { Tells S.shows S.hears (lines.line_continued alone self.old).pieces setter.old
+        ensures emitted { Tells S.shows S.hears (lines.line_continued alone self.old).pieces setter.old
             setter.new }
     {
         if !alone {
@@ -315,8 +315,8 @@ impl Reader {
 
     /// What stands after the last field that was told: a rule, a text block that begins, or a field, and the row ends.
     fn tell_rest<S: Setter>(&mut self, setter: &mut S)
-        ensures page { self.new ≡ (lines.rest_told self.old).page }
-        ensures told { Tells S.shows S.hears (lines.rest_told self.old).pieces setter.old setter.new }
+        ensures page { self.new ≡ (lines.rest_emitted self.old).page }
+        ensures emitted { Tells S.shows S.hears (lines.rest_emitted self.old).pieces setter.old setter.new }
     {
         match shape_of(self.state.trimmed(self.rest())) {
             Shape::Block => {
@@ -335,16 +335,16 @@ impl Reader {
     /// The last field of a row is told.
     pub(crate) fn tell_last_field<S: Setter>(&mut self, setter: &mut S)
         ensures page { self.new ≡ (lines.last_field self.old).page }
-        ensures told { Tells S.shows S.hears (lines.last_field self.old).pieces setter.old setter.new }
+        ensures emitted { Tells S.shows S.hears (lines.last_field self.old).pieces setter.old setter.new }
     {
-        let text = behind(self.kept.as_slice(), self.from);
+        let text = tail_from(self.kept.as_slice(), self.from);
         self.state.tell_last(text, setter);
     }
 
     /// The last field of a row is told, and the row ends.
     fn last_field_ends<S: Setter>(&mut self, setter: &mut S)
         ensures page { self.new ≡ (lines.last_ended self.old).page }
-        ensures told { Tells S.shows S.hears (lines.last_ended self.old).pieces setter.old setter.new }
+        ensures emitted { Tells S.shows S.hears (lines.last_ended self.old).pieces setter.old setter.new }
     {
         self.tell_last_field(setter);
         self.row_ends(setter);
@@ -361,7 +361,7 @@ impl Reader {
     /// A row ends.
     pub(crate) fn row_ends<S: Setter>(&mut self, setter: &mut S)
         ensures page { self.new ≡ (lines.row_ended self.old).page }
-        ensures told { Tells S.shows S.hears (lines.row_ended self.old).pieces setter.old setter.new }
+        ensures emitted { Tells S.shows S.hears (lines.row_ended self.old).pieces setter.old setter.new }
     {
         setter.tell(Tell::Row, b"");
         self.begins_row();
@@ -386,7 +386,7 @@ impl Reader {
     /// There is no room for more of a row: what was told of it is one, and the rest stands as it is.
     pub(crate) fn row_overflows<S: Setter>(&mut self, setter: &mut S)
         ensures page { self.new ≡ (lines.row_overflown self.old).page }
-        ensures told { Tells S.shows S.hears (lines.row_overflown self.old).pieces setter.old setter.new }
+        ensures emitted { Tells S.shows S.hears (lines.row_overflown self.old).pieces setter.old setter.new }
     {
         self.row_is_cut(setter);
         self.complains(Kind::RowLimit, setter);

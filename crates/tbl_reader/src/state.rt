@@ -137,11 +137,11 @@ impl State {
 
     /// Whether a field of so many cells passes the end of the line, which is told once; else it is taken.
     pub(crate) fn passes_line(&mut self, cells: usize) -> bool
-        ensures told { result ≡ specs.passes_line cells self.old }
+        ensures emitted { result ≡ specs.passes_line cells self.old }
         ensures state { self.new ≡ specs.cells_taken cells self.old }
     {
         if self.measure.overruns(cells) {
-            self.measure = self.measure.told();
+            self.measure = self.measure.emitted();
             return true;
         }
         self.measure = self.measure.taken(cells);
@@ -169,7 +169,7 @@ impl State {
             return Some(Kind::BadFormat(b'.'));
         }
         if self.measure.is_wider(self.options.frame, line) {
-            self.measure = self.measure.told();
+            self.measure = self.measure.emitted();
             return Some(Kind::TooWide);
         }
         None

@@ -176,8 +176,8 @@ line_becomes old new tell is text t same comes become =
     (subst (Becomes old new) (sym comes) (subst (λ (k : Tell). Becomes old new (relieved (line_set k text t))) same become))
 
 -- where nothing is wrong nothing is told
-pub nothing_told : {old new : MutBor (Items Complaint)} {before missed : Bool} → IsSame old before new missed → Notes old new before missed []
-nothing_told {old} {new} {before} {missed} (stays, none) = record {
+pub nothing_reported : {old new : MutBor (Items Complaint)} {before missed : Bool} → IsSame old before new missed → Notes old new before missed []
+nothing_reported {old} {new} {before} {missed} (stays, none) = record {
   same = ap (λ (b : MutBor (Items Complaint)). b.ghost_name) stays;
   room = ap (λ (b : MutBor (Items Complaint)). b.now.capacity) stays;
   keeps = λ all kept. subst (λ (l : List Complaint). Keeps l new.now missed) (sym (append-nil all))
@@ -185,23 +185,23 @@ nothing_told {old} {new} {before} {missed} (stays, none) = record {
       (subst (λ (b : MutBor (Items Complaint)). Keeps all b.now before) (sym stays) kept));
 }
 
-pub told_as : {old new : MutBor (Items Complaint)} {before missed : Bool} {more all : List Complaint} → more ≡ all
+pub reported_as : {old new : MutBor (Items Complaint)} {before missed : Bool} {more all : List Complaint} → more ≡ all
     → Notes old new before missed more → Notes old new before missed all
-told_as {old} {new} {before} {missed} same notes = subst (λ (l : List Complaint). Notes old new before missed l) same notes
+reported_as {old} {new} {before} {missed} same notes = subst (λ (l : List Complaint). Notes old new before missed l) same notes
 
-pub chosen_told : {old new : MutBor (Items Complaint)} {before missed : Bool} (x y : Bool) (first second : List Complaint) → y ≡ x
+pub chosen_reported : {old new : MutBor (Items Complaint)} {before missed : Bool} (x y : Bool) (first second : List Complaint) → y ≡ x
     → Notes old new before missed (if x then first else second) → Notes old new before missed (if y then first else second)
-chosen_told {old} {new} {before} {missed} x y first second is notes =
+chosen_reported {old} {new} {before} {missed} x y first second is notes =
     subst (λ (z : Bool). Notes old new before missed (if z then first else second)) (sym is) notes
 
-pub told_for : {old new : MutBor (Items Complaint)} {before missed : Bool} (tell is : Tell) (t : Setting) → tell ≡ is
+pub reported_for : {old new : MutBor (Items Complaint)} {before missed : Bool} (tell is : Tell) (t : Setting) → tell ≡ is
     → Notes old new before missed (wrong_in is t) → Notes old new before missed (wrong_in tell t)
-told_for {old} {new} {before} {missed} tell is t same notes = subst (λ (k : Tell). Notes old new before missed (wrong_in k t)) (sym same) notes
+reported_for {old} {new} {before} {missed} tell is t same notes = subst (λ (k : Tell). Notes old new before missed (wrong_in k t)) (sym same) notes
 
-pub line_told : {old new : MutBor (Items Complaint)} {before missed : Bool} (tell is : Tell) (t : Setting) → tell ≡ is → wrong_in is t ≡ []
+pub line_reported : {old new : MutBor (Items Complaint)} {before missed : Bool} (tell is : Tell) (t : Setting) → tell ≡ is → wrong_in is t ≡ []
     → IsSame old before new missed → Notes old new before missed (wrong_in tell t)
-line_told {old} {new} {before} {missed} tell is t same none stays =
-    told_for tell is t same (subst (λ (l : List Complaint). Notes old new before missed l) (sym none) (nothing_told stays))
+line_reported {old} {new} {before} {missed} tell is t same none stays =
+    reported_for tell is t same (subst (λ (l : List Complaint). Notes old new before missed l) (sym none) (nothing_reported stays))
 
 -- ---- one byte more of a block
 

@@ -18,7 +18,7 @@ use Rattle.tbl_setting.specs.Held.{emptied}
 use Rattle.tbl_drawing.specs.Pens.{Bytes}
 use Rattle.tbl_drawing.specs.Tapes.{Tape, Sends, SendsIn, Draws, failed_since}
 use Rattle.tbl_drawing.proofs.Tapes.{draws_nothing, sends_then}
-use Rattle.tbl_setting.specs.Running.{Puts, PutsFront, IsBroken, Ran, said_so_far}
+use Rattle.tbl_setting.specs.Running.{Puts, PutsPrefix, IsBroken, Ran, said_so_far}
 use Rattle.tbl_setting.specs.Bounds.{Bounds, page_setting}
 use Rattle.tbl_setting.specs.Setting.{EndsAs, IsSame, Keeps, Shown, Shows, first_tape, hears, set, set_bytes, strokes, wrongs}
 use Rattle.tbl_setting.proofs.Pieces.{heard-said}
@@ -28,9 +28,9 @@ went_out true h now left out sends live empty = absurd (let no : true ≡ false 
 went_out false h now left out sends live empty =
     subst (Appends h now) (sym (sends.2 ∙ ap (λ l. sends.0 ++ l) empty ∙ append-nil sends.0)) sends.1
 
-pub front_out : (f : Bool) (h now : Option (List ℕ)) (left out : List ℕ) → SendsIn false f h [] now left out → AppendsPrefix h now out
-front_out true h now left out sends = sends
-front_out false h now left out sends = (sends.0, left, sends.2, sends.1)
+pub prefix_out : (f : Bool) (h now : Option (List ℕ)) (left out : List ℕ) → SendsIn false f h [] now left out → AppendsPrefix h now out
+prefix_out true h now left out sends = sends
+prefix_out false h now left out sends = (sends.0, left, sends.2, sends.1)
 
 -- who has heard this since
 abbrev pub said_to : List Piece → Shown → Shown
@@ -48,8 +48,8 @@ shown : {A : Type 0} (shows : A → Shown → Type 0) (old new : A) (w : Bounds)
     → ((s : Shown) → shows new s → Shows a table kept missed s)
     → Tells shows hears ps old new
     → Shows a table kept missed (said_to ps s)
-shown shows old new w ps s a table kept missed start is told =
-    is _ (subst (shows new) (heard-said ps (said_to [] s)) (told (said_to [] s) start.shows_it))
+shown shows old new w ps s a table kept missed start is emitted =
+    is _ (subst (shows new) (heard-said ps (said_to [] s)) (emitted (said_to [] s) start.shows_it))
 
 -- what was drawn, and what waited and went then
 sent : (w : Bounds) (ps : List Piece) (s : Shown) (a b : Tape) (table : MutBor Setting) (kept : MutBor (Items Complaint)) (missed : Bool)
@@ -73,31 +73,31 @@ module _ {A : Type 0} (shows : A → Shown → Type 0) (old new : A) (w : Bounds
   parted ps h = ap (λ (t : Setting). t.layout.uneven) (h.setting_now ∙ ap (set ps) start.setting)
 
   whole : (ps : List Piece) → Tells shows hears ps old new → b.failed ≡ false → b.pending ≡ [] → Puts (set_bytes w ps) ps (page_setting w) s.held b.held kept.now missed table.now.layout.uneven
-  whole ps told live empty =
-      let h = shown shows old new w ps s a table kept missed start is told in
+  whole ps emitted live empty =
+      let h = shown shows old new w ps s a table kept missed start is emitted in
       record { went_out = went_out b.failed s.held b.held b.pending (set_bytes w ps) (sent w ps s a b table kept missed start.setting h flushed).sends live empty; keeps = kept-wrong ps h; parts = parted ps h }
 
-  part : (ps : List Piece) → Tells shows hears ps old new → PutsFront (set_bytes w ps) ps (page_setting w) s.held b.held kept.now missed table.now.layout.uneven
-  part ps told =
-      let h = shown shows old new w ps s a table kept missed start is told in
-      record { went_out = front_out b.failed s.held b.held b.pending (set_bytes w ps) (sent w ps s a b table kept missed start.setting h flushed).sends; keeps = kept-wrong ps h; parts = parted ps h }
+  part : (ps : List Piece) → Tells shows hears ps old new → PutsPrefix (set_bytes w ps) ps (page_setting w) s.held b.held kept.now missed table.now.layout.uneven
+  part ps emitted =
+      let h = shown shows old new w ps s a table kept missed start is emitted in
+      record { went_out = prefix_out b.failed s.held b.held b.pending (set_bytes w ps) (sent w ps s a b table kept missed start.setting h flushed).sends; keeps = kept-wrong ps h; parts = parted ps h }
 
   either : {ps qs : List Piece} → Tells shows hears ps old new ⊎ Tells shows hears qs old new
-      → PutsFront (set_bytes w ps) ps (page_setting w) s.held b.held kept.now missed table.now.layout.uneven ⊎ PutsFront (set_bytes w qs) qs (page_setting w) s.held b.held kept.now missed table.now.layout.uneven
-  either (inl told) = inl (part _ told)
-  either (inr told) = inr (part _ told)
+      → PutsPrefix (set_bytes w ps) ps (page_setting w) s.held b.held kept.now missed table.now.layout.uneven ⊎ PutsPrefix (set_bytes w qs) qs (page_setting w) s.held b.held kept.now missed table.now.layout.uneven
+  either (inl emitted) = inl (part _ emitted)
+  either (inr emitted) = inr (part _ emitted)
 
   ran-whole : (o : Outcome) → reading.Ran shows hears w.limits w.cells first last old new o → b.failed ≡ false → b.pending ≡ [] → Ran w first last s.held b.held kept.now missed table.now.layout.uneven o
-  ran-whole Done r live empty = record { bytes = r.bytes; came = r.came; ends = r.ends; puts = whole _ r.told live empty }
-  ran-whole (ReadFault at) r live empty = record { bytes = r.bytes; came = r.came; count = r.count; puts = whole _ r.told live empty }
-  ran-whole TooLong r live empty = record { bytes = r.bytes; came = r.came; count = r.count; puts = whole _ r.told live empty }
-  ran-whole WriteFault r live empty = record { bytes = r.bytes; came = r.came; puts = either r.told }
+  ran-whole Done r live empty = record { bytes = r.bytes; came = r.came; ends = r.ends; puts = whole _ r.emitted live empty }
+  ran-whole (ReadFault at) r live empty = record { bytes = r.bytes; came = r.came; count = r.count; puts = whole _ r.emitted live empty }
+  ran-whole TooLong r live empty = record { bytes = r.bytes; came = r.came; count = r.count; puts = whole _ r.emitted live empty }
+  ran-whole WriteFault r live empty = record { bytes = r.bytes; came = r.came; puts = either r.emitted }
 
   broken : (o : Outcome) → reading.Ran shows hears w.limits w.cells first last old new o → IsBroken w first last s.held b.held kept.now missed table.now.layout.uneven
-  broken Done r = record { bytes = r.bytes; came = r.came; puts = inr (part _ r.told) }
-  broken (ReadFault at) r = record { bytes = r.bytes; came = r.came; puts = inl (part _ r.told) }
-  broken TooLong r = record { bytes = r.bytes; came = r.came; puts = inl (part _ r.told) }
-  broken WriteFault r = record { bytes = r.bytes; came = r.came; puts = either r.told }
+  broken Done r = record { bytes = r.bytes; came = r.came; puts = inr (part _ r.emitted) }
+  broken (ReadFault at) r = record { bytes = r.bytes; came = r.came; puts = inl (part _ r.emitted) }
+  broken TooLong r = record { bytes = r.bytes; came = r.came; puts = inl (part _ r.emitted) }
+  broken WriteFault r = record { bytes = r.bytes; came = r.came; puts = either r.emitted }
 
   ran-ends : (wanted o : Outcome) → reading.Ran shows hears w.limits w.cells first last old new wanted → EndsAs wanted o b → Ran w first last s.held b.held kept.now missed table.now.layout.uneven o
   ran-ends wanted o r (inl (same, live, empty)) =
@@ -107,17 +107,17 @@ module _ {A : Type 0} (shows : A → Shown → Type 0) (old new : A) (w : Bounds
 
   -- what was lent stays what it is
   heard-it : (ps : List Piece) → Tells shows hears ps old new → (all : List Piece) × Shows a table kept missed (said_to all s)
-  heard-it ps told = (ps, shown shows old new w ps s a table kept missed start is told)
+  heard-it ps emitted = (ps, shown shows old new w ps s a table kept missed start is emitted)
 
   heard-some : (ps qs : List Piece) → Tells shows hears ps old new ⊎ Tells shows hears qs old new → (all : List Piece) × Shows a table kept missed (said_to all s)
-  heard-some ps qs (inl told) = heard-it ps told
-  heard-some ps qs (inr told) = heard-it qs told
+  heard-some ps qs (inl emitted) = heard-it ps emitted
+  heard-some ps qs (inr emitted) = heard-it qs emitted
 
   heard-all : (o : Outcome) → reading.Ran shows hears w.limits w.cells first last old new o → (all : List Piece) × Shows a table kept missed (said_to all s)
-  heard-all Done r = heard-it (page_said w.limits w.cells r.bytes) r.told
-  heard-all (ReadFault at) r = heard-it (said_so_far w.limits w.cells r.bytes) r.told
-  heard-all TooLong r = heard-it (said_so_far w.limits w.cells r.bytes) r.told
-  heard-all WriteFault r = heard-some (said_so_far w.limits w.cells r.bytes) (page_said w.limits w.cells r.bytes) r.told
+  heard-all Done r = heard-it (page_said w.limits w.cells r.bytes) r.emitted
+  heard-all (ReadFault at) r = heard-it (said_so_far w.limits w.cells r.bytes) r.emitted
+  heard-all TooLong r = heard-it (said_so_far w.limits w.cells r.bytes) r.emitted
+  heard-all WriteFault r = heard-some (said_so_far w.limits w.cells r.bytes) (page_said w.limits w.cells r.bytes) r.emitted
 
 -- a write fault is reported where the output failed
 live_before : (f g : Bool) (h i : Option (List ℕ)) (v w xs : List ℕ) → SendsIn f g h v i w xs → g ≡ false → f ≡ false
@@ -125,11 +125,11 @@ live_before false g h i v w xs sends live = refl
 live_before true true h i v w xs sends live = live
 live_before true false h i v w xs sends live = absurd sends
 
-faults-told : (wanted o : Outcome) (a b : Tape) → Draws a b (Bytes [] ∷ []) → a.failed ≡ reading.is_write_fault wanted → EndsAs wanted o b
+faults-emitted : (wanted o : Outcome) (a b : Tape) → Draws a b (Bytes [] ∷ []) → a.failed ≡ reading.is_write_fault wanted → EndsAs wanted o b
     → b.failed ≡ reading.is_write_fault o
-faults-told wanted o a b flushed is (inl (same, live, empty)) =
+faults-emitted wanted o a b flushed is (inl (same, live, empty)) =
     live ∙ sym (live_before a.failed b.failed a.held b.held a.pending b.pending _ flushed.sends.sends live) ∙ is ∙ ap reading.is_write_fault (sym same)
-faults-told wanted o a b flushed is (inr (same, fails)) = fails ∙ ap reading.is_write_fault (sym same)
+faults-emitted wanted o a b flushed is (inr (same, fails)) = fails ∙ ap reading.is_write_fault (sym same)
 
 faults-counted : (b : Bool) (c d : SinkFailures) (f : Bool) → d ≡ put_counted_if (failed_since false f) c → f ≡ b → d ≡ put_counted_if b c
 faults-counted b c d true counted is = counted ∙ ap (λ (x : Bool). put_counted_if x c) is
@@ -155,7 +155,7 @@ runs_to shows old new w first last s a b table table' kept kept' missed missed' 
     let h = (heard-all shows old new w first last s a b table kept missed start is flushed wanted ran).1 in
     let all : RunsTo w first last s b table kept missed o = record {
       failures = faults-counted (reading.is_write_fault o) s.failures b.failures b.failed
-          (sends_then h.draws.sends flushed.sends).failures (faults-told wanted o a b flushed failed ends);
+          (sends_then h.draws.sends flushed.sends).failures (faults-emitted wanted o a b flushed failed ends);
       ran = ran-ends shows old new w first last s a b table kept missed start is flushed wanted o ran ends;
       setting_same = h.setting_same;
       setting_room = h.setting_room;

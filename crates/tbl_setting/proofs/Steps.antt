@@ -13,7 +13,7 @@ use Rattle.tbl_reader.specs.declared.running.Outcome.{Outcome}
 use Rattle.tbl_reader.specs.Telling.{Piece, heard}
 use Rattle.tbl_setting.specs.Setting.{EndsAs, IsSame, Keeps, KeepsMore, Shown, Shows, first_tape, hears, set, wrongs}
 use Rattle.tbl_setting.specs.Stepping.{AreKept, Sent, pieces_bytes}
-use Rattle.tbl_setting.proofs.Runs.{front_out, lent, went_out}
+use Rattle.tbl_setting.proofs.Runs.{prefix_out, lent, went_out}
 use Rattle.tbl_setting.proofs.Pieces.{heard-said}
 
 -- ---- one who has heard nothing since these complaints were told
@@ -45,21 +45,21 @@ sent_so wanted o bytes held failures b sends (inl (same, live, empty)) =
     )
 sent_so wanted o bytes held failures b sends (inr (same, fails)) =
     inr (
-      front_out b.failed held b.held b.pending bytes sends.sends,
+      prefix_out b.failed held b.held b.pending bytes sends.sends,
       sends.failures ∙ ap (λ (f : Bool). put_counted_if (failed_since false f) failures) fails,
     )
 
 module _ (ps : List Piece) (out a b : Tape) (table table' table'' : MutBor Setting) (kept kept' kept'' : MutBor (Items Complaint)) (missed missed' missed'' : Bool)
     (wanted o : Outcome)
     (fresh : out ≡ first_tape out.held out.failures)
-    (told : (s : Shown) → Shows out table kept missed s → Shows a table' kept' missed' (heard hears ps s))
+    (emitted : (s : Shown) → Shows out table kept missed s → Shows a table' kept' missed' (heard hears ps s))
     (flushed : Draws a b (Bytes [] ∷ []))
     (here : table'' ≡ table')
     (same : IsSame kept' missed' kept'' missed'')
     (ends : EndsAs wanted o b) where
   shown : (all : List Complaint) → Keeps all kept.now missed → Shows a table' kept' missed' (record (lent out table kept) { wrong = all; said = ps })
   unfolding noting
-  shown all keeps = subst (Shows a table' kept' missed') (heard-said ps (noting all out table kept)) (told (noting all out table kept) (begins all out table kept missed fresh keeps))
+  shown all keeps = subst (Shows a table' kept' missed') (heard-said ps (noting all out table kept)) (emitted (noting all out table kept) (begins all out table kept missed fresh keeps))
 
   more : KeepsMore kept.now missed kept''.now missed'' (wrongs ps table.now)
   more all keeps =
@@ -90,13 +90,13 @@ pub steps_to : (ps : List Piece) (out a b : Tape) (table table' table'' : MutBor
     → ((s : Shown) → Shows out table kept missed s → Shows a table' kept' missed' (heard hears ps s))
     → Draws a b (Bytes [] ∷ []) → table'' ≡ table' → IsSame kept' missed' kept'' missed'' → EndsAs wanted o b
     → AreKept kept.now missed → StepsTo ps out b table table'' kept kept'' missed missed''
-steps_to ps out a b table table' table'' kept kept' kept'' missed missed' missed'' wanted o fresh told flushed here same ends (all, keeps) =
-    let h = shown ps out a b table table' table'' kept kept' kept'' missed missed' missed'' wanted o fresh told flushed here same ends all keeps in
+steps_to ps out a b table table' table'' kept kept' kept'' missed missed' missed'' wanted o fresh emitted flushed here same ends (all, keeps) =
+    let h = shown ps out a b table table' table'' kept kept' kept'' missed missed' missed'' wanted o fresh emitted flushed here same ends all keeps in
     record {
-      sent = sent_so wanted o (pieces_bytes ps table.now) out.held out.failures b (drawn ps out a b table table' table'' kept kept' kept'' missed missed' missed'' wanted o fresh told flushed here same ends all keeps) ends;
-      keeps = more ps out a b table table' table'' kept kept' kept'' missed missed' missed'' wanted o fresh told flushed here same ends;
+      sent = sent_so wanted o (pieces_bytes ps table.now) out.held out.failures b (drawn ps out a b table table' table'' kept kept' kept'' missed missed' missed'' wanted o fresh emitted flushed here same ends all keeps) ends;
+      keeps = more ps out a b table table' table'' kept kept' kept'' missed missed' missed'' wanted o fresh emitted flushed here same ends;
       setting_same = ap (λ (x : MutBor Setting). x.ghost_name) here ∙ h.setting_same;
-      setting_now = set_so ps out a b table table' table'' kept kept' kept'' missed missed' missed'' wanted o fresh told flushed here same ends all keeps;
+      setting_now = set_so ps out a b table table' table'' kept kept' kept'' missed missed' missed'' wanted o fresh emitted flushed here same ends all keeps;
       setting_room = ap (λ (x : MutBor Setting). emptied x.now) here ∙ h.setting_room;
       same = ap (λ (x : MutBor (Items Complaint)). x.ghost_name) same.0 ∙ h.same;
       room = ap (λ (x : MutBor (Items Complaint)). x.now.capacity) same.0 ∙ h.room;

@@ -70,7 +70,7 @@ pub record IsCut (b : Bounds) (first last : Option Supply)
   pub puts : Puts (set_so_far b bytes) (said_so_far b.limits b.cells bytes) (page_setting b) held new kept missed uneven
 
 -- a part of these bytes went out, what is wrong with what was said was told, and so were such parts
-pub record PutsFront (out : List ℕ) (said : List Piece) (s : Setting) (held new : Option (List ℕ)) (kept : Items Complaint)
+pub record PutsPrefix (out : List ℕ) (said : List Piece) (s : Setting) (held new : Option (List ℕ)) (kept : Items Complaint)
     (missed uneven : Bool) : Type 0 where
   pub went_out : AppendsPrefix held new out
   pub keeps : Keeps (wrongs said s) kept missed
@@ -81,8 +81,8 @@ pub record IsBroken (b : Bounds) (first last : Option Supply)
     (held new : Option (List ℕ)) (kept : Items Complaint) (missed uneven : Bool) : Type 0 where
   pub bytes : List ℕ
   pub came : Came first bytes last
-  pub puts : PutsFront (set_so_far b bytes) (said_so_far b.limits b.cells bytes) (page_setting b) held new kept missed uneven
-      ⊎ PutsFront (set_page b bytes) (page_said b.limits b.cells bytes) (page_setting b) held new kept missed uneven
+  pub puts : PutsPrefix (set_so_far b bytes) (said_so_far b.limits b.cells bytes) (page_setting b) held new kept missed uneven
+      ⊎ PutsPrefix (set_page b bytes) (page_said b.limits b.cells bytes) (page_setting b) held new kept missed uneven
 
 abbrev pub Ran : Bounds → Option Supply → Option Supply → Option (List ℕ) → Option (List ℕ)
     → Items Complaint → Bool → Bool → Outcome → Type 0

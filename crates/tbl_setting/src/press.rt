@@ -199,7 +199,7 @@ impl<'t, 'p, 'k, 'c, W: Sink> Press<'t, 'p, 'k, 'c, W> {
             Tell::Formats => self.setting.layout.grid.table.formats_begin(),
             Tell::Format(called) => tell_called(called, &mut self.setting.layout.grid.table),
             Tell::FormatsEnd => self.setting.layout.grid.table.formats_end(),
-            Tell::Field(front) => self.setting.layout.grid.table.add_field(text, front),
+            Tell::Field(prefix) => self.setting.layout.grid.table.add_field(text, prefix),
             Tell::Mark(mark) => self.setting.layout.grid.table.add_mark(form_of(mark)),
             Tell::Block => self.setting.layout.grid.table.text_begins(),
             Tell::BlockEnd => self.setting.layout.grid.table.block_ends(),
@@ -237,6 +237,6 @@ impl<'t, 'p, 'k, 'c, W: Sink> Setter for Press<'t, 'p, 'k, 'c, W> {
     }
 
     fn has_failed(&self) -> bool {
-        self.out.told().is_err()
+        self.out.returned().is_err()
     }
 }

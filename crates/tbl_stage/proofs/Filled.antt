@@ -9,12 +9,12 @@ filled : (bytes items : List ℕ) (room : ℕ) (before after : SinkFailures) →
     → Sent bytes (Some []) (Some items) before after → Fills bytes items room
 unfolding next_count
 filled bytes items room before after none full (inl (all, same)) = inl all
-filled bytes items room before after none full (inr ((front, rest, split, is), fails)) =
+filled bytes items room before after none full (inr ((prefix, rest, split, is), fails)) =
     let one : after.puts ≡ 1 = ap (λ (f : SinkFailures). f.puts) fails ∙ ap next_count none in
     let most : length items ≡ room = full (omega (arith, one)) in
-    let cut : length bytes ≡ length (front ++ rest) = ap (λ (l : List ℕ). length l) split in
-    let same : length items ≡ length front = ap (λ (l : List ℕ). length l) is in
-    let sum = length-append front rest in
+    let cut : length bytes ≡ length (prefix ++ rest) = ap (λ (l : List ℕ). length l) split in
+    let same : length items ≡ length prefix = ap (λ (l : List ℕ). length l) is in
+    let sum = length-append prefix rest in
     inr (most, omega (arith, most, cut, same, sum))
 
 pub filled_so : (bytes items : List ℕ) (room : ℕ) (held new : Option (List ℕ)) (before after : SinkFailures) → Sent bytes held new before after → held ≡ Some [] → new ≡ Some items

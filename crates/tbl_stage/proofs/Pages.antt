@@ -5,7 +5,7 @@ use Rattle.tbl_reader.specs.Pages.{and_then}
 use Rattle.tbl_reader.specs.Reading.{read, fed}
 use Rattle.tbl_reader.specs.Telling.{Piece}
 use Rattle.tbl_setting.specs.Stepping.{pieces_bytes}
-use Rattle.tbl_stage.specs.Laws.{TurnsFront, TurnsSoFar, TurnsWhole}
+use Rattle.tbl_stage.specs.Laws.{TurnsPrefix, TurnsSoFar, TurnsWhole}
 use Rattle.tbl_stage.specs.Staged.{Held, after_byte, bytes_for, first_held, has_all, has_room, said}
 use Rattle.tbl_stage.proofs.Pens.{pieces_then}
 
@@ -74,30 +74,30 @@ turns_so_far most b bytes all = said_so_far most bytes (first_held b) all
 
 -- ---- and else
 
-front_end : (all : List ℕ) (room : Bool) → (rest : List ℕ) × ((if room then all else []) ++ rest ≡ all)
-front_end all true = ([], append-nil all)
-front_end all false = (all, refl)
+prefix_end : (all : List ℕ) (room : Bool) → (rest : List ℕ) × ((if room then all else []) ++ rest ≡ all)
+prefix_end all true = ([], append-nil all)
+prefix_end all false = (all, refl)
 
-front_more : (most b : ℕ) (bs : List ℕ) (h : Held) (room : Bool) → has_room most (Some b) h ≡ room
+prefix_more : (most b : ℕ) (bs : List ℕ) (h : Held) (room : Bool) → has_room most (Some b) h ≡ room
     → ((rest : List ℕ) × (said most (after_byte b h) true bs ++ rest ≡ whole_of bs (after_byte b h)))
     → (rest : List ℕ) × (said most h true (b ∷ bs) ++ rest ≡ whole_of (b ∷ bs) h)
-front_more most b bs h true room more = (
+prefix_more most b bs h true room more = (
   more.0,
   ap (λ (l : List ℕ). l ++ more.0) (said_more most b bs h true room)
       ∙ append_assoc (bytes_for (Some b) h) (said most (after_byte b h) true bs) more.0
       ∙ ap (λ (l : List ℕ). bytes_for (Some b) h ++ l) more.1
       ∙ sym (whole_more b bs h),
 )
-front_more most b bs h false room more = (
+prefix_more most b bs h false room more = (
   whole_of (b ∷ bs) h,
   ap (λ (x : Bool). (if x then bytes_for (Some b) h ++ said most (after_byte b h) true bs else []) ++ whole_of (b ∷ bs) h) room,
 )
 
-said_front : (most : ℕ) (bytes : List ℕ) (h : Held) → (rest : List ℕ) × (said most h true bytes ++ rest ≡ whole_of bytes h)
+said_prefix : (most : ℕ) (bytes : List ℕ) (h : Held) → (rest : List ℕ) × (said most h true bytes ++ rest ≡ whole_of bytes h)
 unfolding whole_of
-said_front most [] h = front_end (bytes_for None h) (has_room most None h)
-said_front most (b ∷ bs) h = front_more most b bs h (has_room most (Some b) h) refl (said_front most bs (after_byte b h))
+said_prefix most [] h = prefix_end (bytes_for None h) (has_room most None h)
+said_prefix most (b ∷ bs) h = prefix_more most b bs h (has_room most (Some b) h) refl (said_prefix most bs (after_byte b h))
 
-pub turns_front : TurnsFront
+pub turns_prefix : TurnsPrefix
 unfolding whole_of
-turns_front most b bytes = said_front most bytes (first_held b)
+turns_prefix most b bytes = said_prefix most bytes (first_held b)

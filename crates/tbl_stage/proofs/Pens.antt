@@ -113,7 +113,7 @@ piece_free (tells.Options options) text t = tt
 piece_free tells.Formats text t = tt
 piece_free (tells.Format called) text t = tt
 piece_free tells.FormatsEnd text t = tt
-piece_free (tells.Field front) text t = tt
+piece_free (tells.Field prefix) text t = tt
 piece_free (tells.Mark mark) text t = tt
 piece_free tells.Block text t = tt
 piece_free tells.BlockText text t = block_free text t
@@ -137,7 +137,7 @@ strokes_free (p ∷ ps) t =
 pub pieces_then : (ps qs : List Piece) (t : Setting) → pieces_bytes (ps ++ qs) t ≡ pieces_bytes ps t ++ pieces_bytes qs (setting.set ps t)
 pieces_then ps qs t =
     let before = setting.strokes ps t in
-    let behind = setting.strokes qs (setting.set ps t) in
+    let after = setting.strokes qs (setting.set ps t) in
     ap (λ (l : List Stroke). bytes_of l first) (strokes-append ps qs t)
-    ∙ bytes_of-append before behind first
-    ∙ ap (λ (l : List ℕ). bytes_of before first ++ l) (same_bytes behind (strokes_free qs (setting.set ps t)) (after_all before first) first)
+    ∙ bytes_of-append before after first
+    ∙ ap (λ (l : List ℕ). bytes_of before first ++ l) (same_bytes after (strokes_free qs (setting.set ps t)) (after_all before first) first)

@@ -14,6 +14,6 @@ TurnsSoFar = (most : ℕ) (b : Bounds) (bytes : List ℕ)
     → has_all most (first_held b) bytes ≡ true → said most (first_held b) false bytes ≡ set_so_far b bytes
 
 -- and else a prefix of it
-abbrev pub TurnsFront : Type 0
-TurnsFront = (most : ℕ) (b : Bounds) (bytes : List ℕ)
+abbrev pub TurnsPrefix : Type 0
+TurnsPrefix = (most : ℕ) (b : Bounds) (bytes : List ℕ)
     → (rest : List ℕ) × (said most (first_held b) true bytes ++ rest ≡ set_page b bytes)

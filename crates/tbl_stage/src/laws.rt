@@ -1,6 +1,6 @@
 //! Laws of a page that is turned a part at a time, each the contract of a function that does nothing: they speak of the definitions
 //! alone.
-ghost use Rattle.tbl_stage.specs.Laws.{TurnsFront, TurnsSoFar, TurnsWhole};
+ghost use Rattle.tbl_stage.specs.Laws.{TurnsPrefix, TurnsSoFar, TurnsWhole};
 
 /// What goes out of a page in parts, and of its end, is what all of it comes to, where there is room for all; and else a prefix of
 /// that.
@@ -10,5 +10,5 @@ ghost use Rattle.tbl_stage.specs.Laws.{TurnsFront, TurnsSoFar, TurnsWhole};
 pub fn turned_page()
     ensures whole { TurnsWhole }
     ensures so_far { TurnsSoFar }
-    ensures front { TurnsFront }
+    ensures prefix { TurnsPrefix }
 {}

@@ -64,7 +64,7 @@ abbrev pub no_span : Span
 no_span = record { start = 0; «end» = 0 }
 
 abbrev pub no_field : Field
-no_field = record { form = forms.Text; span = no_span; front = None }
+no_field = record { form = forms.Text; span = no_span; prefix = None }
 
 abbrev pub no_row : Row
 no_row =

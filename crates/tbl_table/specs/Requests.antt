@@ -35,13 +35,13 @@ is_asked [] = false
 is_asked (b ∷ bs) = is_control b
 
 -- what stands after the control character
-abbrev pub behind : List ℕ → List ℕ
-behind [] = []
-behind (b ∷ bs) = bs
+abbrev pub after_first : List ℕ → List ℕ
+after_first [] = []
+after_first (b ∷ bs) = bs
 
 -- the name of a request
 abbrev pub request : List ℕ → List ℕ
-request line = name_of (after_blanks (behind line))
+request line = name_of (after_blanks (after_first line))
 
 -- a name of two letters
 abbrev pub is_one : List ℕ → ℕ → ℕ → Bool
@@ -87,7 +87,7 @@ leaves_filling text = is_empty text || is_harmless_name (name_of text) text
 
 -- a request that leaves filling and indent
 abbrev pub is_harmless : List ℕ → Bool
-is_harmless line = is_asked line && leaves_filling (after_blanks (behind line))
+is_harmless line = is_asked line && leaves_filling (after_blanks (after_first line))
 
 -- ---- .sp with a number of lines, or without one: `v` may stand after it, and a fraction, of which half a line and more is one
 
@@ -131,7 +131,7 @@ space_in (a ∷ b ∷ bs) = if (a == code "s") && (b == code "p") then lines_ask
 space_in text = None
 
 abbrev pub space_asked : List ℕ → Option ℕ
-space_asked line = if is_asked line then space_in (after_blanks (behind line)) else None
+space_asked line = if is_asked line then space_in (after_blanks (after_first line)) else None
 
 -- a condition that always holds
 abbrev pub after_n : List ℕ → List ℕ
@@ -146,7 +146,7 @@ after_if text = []
 -- the request that `.if n` asks for, or the line itself
 abbrev pub line_asked : List ℕ → List ℕ
 line_asked line =
-    if is_asked (after_if (after_blanks (behind line))) then after_if (after_blanks (behind line)) else line
+    if is_asked (after_if (after_blanks (after_first line))) then after_if (after_blanks (after_first line)) else line
 
 -- how many lines a request of space asks for
 abbrev pub space_of : List ℕ → Option ℕ
@@ -164,7 +164,7 @@ has_brace brace [] = false
 has_brace brace (b ∷ bs) = ((b == code "\\") && begins_with brace bs) || has_brace brace bs
 
 abbrev pub always_holds : List ℕ → Bool
-always_holds line = not (is_empty (after_if (after_blanks (behind line))))
+always_holds line = not (is_empty (after_if (after_blanks (after_first line))))
 
 -- one that always holds, and stands in no other, is none
 abbrev pub one_opened : List ℕ → ℕ → ℕ

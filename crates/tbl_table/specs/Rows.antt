@@ -20,13 +20,13 @@ text_begun t = record t { from = length t.text.items }
 
 -- a field whose text ends there
 abbrev pub field_pushed : Form → ℕ → Option ℕ → Table → Table
-field_pushed form end front t =
+field_pushed form end prefix t =
     text_begun
     (record t {
       fields = with_one (record {
         form = form;
         span = record { start = t.from; «end» = end };
-        front = front;
+        prefix = prefix;
       }) t.fields;
     })
 
@@ -56,10 +56,10 @@ texts_added text t = record t {
 }
 
 abbrev pub field_held : ℕ → Option ℕ → Table → Table
-field_held left_out front t = field_pushed forms.Text (length t.text.items - left_out) front t
+field_held left_out prefix t = field_pushed forms.Text (length t.text.items - left_out) prefix t
 
 abbrev pub field_added : List ℕ → Option ℕ → Table → Table
-field_added text front t = field_held (joined text) front (texts_added text (text_begun t))
+field_added text prefix t = field_held (joined text) prefix (texts_added text (text_begun t))
 
 -- ---- rules and requests
 

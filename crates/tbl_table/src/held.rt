@@ -101,7 +101,7 @@ impl Field {
         Field {
             form: Form::Text,
             span: Span { start: 0, end: 0 },
-            front: None,
+            prefix: None,
         }
     }
 

@@ -52,8 +52,8 @@ fn is_asked(line: &[u8]) -> bool
 }
 
 /// What stands after the control character of a line that has one.
-fn behind(line: &[u8]) -> &[u8]
-    ensures { result.now ≡ specs.behind line.now }
+fn after_first(line: &[u8]) -> &[u8]
+    ensures { result.now ≡ specs.after_first line.now }
 {
     if line.is_empty() { b"" } else { &line[1..] }
 }
@@ -75,7 +75,7 @@ fn name_of(text: &[u8]) -> &[u8]
 fn request(line: &[u8]) -> &[u8]
     ensures { result.now ≡ specs.request line.now }
 {
-    name_of(after_blanks(behind(line)))
+    name_of(after_blanks(after_first(line)))
 }
 
 /// Whether a name is this one of two letters.
@@ -158,7 +158,7 @@ fn leaves_filling(text: &[u8]) -> bool
 pub fn is_harmless(line: &[u8]) -> bool
     ensures { result ≡ specs.is_harmless line.now }
 {
-    is_asked(line) && leaves_filling(after_blanks(behind(line)))
+    is_asked(line) && leaves_filling(after_blanks(after_first(line)))
 }
 
 /// So many lines, if only blanks stand there.
@@ -261,7 +261,7 @@ fn space_asked(line: &[u8]) -> Option<usize>
     ensures { result ≡ specs.space_asked line.now }
 {
     if is_asked(line) {
-        space_in(after_blanks(behind(line)))
+        space_in(after_blanks(after_first(line)))
     } else {
         None
     }
@@ -291,7 +291,7 @@ fn after_if(text: &[u8]) -> &[u8]
 fn line_asked(line: &[u8]) -> &[u8]
     ensures { result.now ≡ specs.line_asked line.now }
 {
-    let asked = after_if(after_blanks(behind(line)));
+    let asked = after_if(after_blanks(after_first(line)));
     if is_asked(asked) { asked } else { line }
 }
 
@@ -323,7 +323,7 @@ fn has_brace(text: &[u8], brace: u8) -> bool
 fn always_holds(line: &[u8]) -> bool
     ensures { result ≡ specs.always_holds line.now }
 {
-    !after_if(after_blanks(behind(line))).is_empty()
+    !after_if(after_blanks(after_first(line))).is_empty()
 }
 
 /// How many conditions over several lines are open after a request, of which so many were before it.

@@ -31,15 +31,15 @@ impl Table {
     }
 
     /// A field whose text was added ends.
-    fn push_field(&mut self, form: Form, end: usize, front: Option<usize>)
-        ensures value { self.new ≡ specs.field_pushed form end front self.old }
+    fn push_field(&mut self, form: Form, end: usize, prefix: Option<usize>)
+        ensures value { self.new ≡ specs.field_pushed form end prefix self.old }
         ensures room { held.emptied self.new ≡ held.emptied self.old }
     {
         let span = Span {
             start: self.from,
             end,
         };
-        add_item(&mut self.fields, Field { form, span, front });
+        add_item(&mut self.fields, Field { form, span, prefix });
         self.from = self.text.len();
     }
 
@@ -54,8 +54,8 @@ impl Table {
     }
 
     /// A field of text. A `\\c` at its end would join rows, and is dropped.
-    pub fn add_field(&mut self, text: &[u8], front: Option<usize>)
-        ensures value { self.new ≡ specs.field_added text.now front self.old }
+    pub fn add_field(&mut self, text: &[u8], prefix: Option<usize>)
+        ensures value { self.new ≡ specs.field_added text.now prefix self.old }
         ensures room { held.emptied self.new ≡ held.emptied self.old }
     {
         self.from = self.text.len();
@@ -64,7 +64,7 @@ impl Table {
         }
         let end = self.text.len();
         let joined = if joins(text) { 2 } else { 0 };
-        self.push_field(Form::Text, end.saturating_sub(joined), front);
+        self.push_field(Form::Text, end.saturating_sub(joined), prefix);
     }
 
     /// A block or a request begins.

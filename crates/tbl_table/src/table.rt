@@ -76,7 +76,7 @@ pub struct Field {
     /// Its text.
     pub span: Span,
     /// How many bytes of a number stand before the place where it is aligned.
-    pub front: Option<usize>,
+    pub prefix: Option<usize>,
 }
 
 /// Where a field stands that goes on over rows below.

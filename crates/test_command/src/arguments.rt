@@ -325,7 +325,7 @@ fn run_into<M: Memory>(
 }
 
 /// Whether a run comes to what its row says.
-fn meets<M: Memory>(alloc: Global, memory: &mut M, row: &Row) -> bool {
+fn agrees<M: Memory>(alloc: Global, memory: &mut M, row: &Row) -> bool {
     let ran = run(alloc, memory, row.words);
     let is_same = ran.output.as_slice() == row.output && ran.line.as_slice() == row.line;
     is_same && (ran.status, ran.opened) == (row.status, row.opened)
@@ -336,21 +336,21 @@ fn rows(rt: HostRuntime) {
     for row in &ROWS {
         let words = row.words;
         assert!(rt;
-            meets(rt.alloc(), &mut Heap::new(rt.alloc()), row),
+            agrees(rt.alloc(), &mut Heap::new(rt.alloc()), row),
             "{words:?}"
         );
     }
 }
 
 /// The same where so many calls for memory are met and the next is refused, and how many were refused.
-fn meets_after(alloc: Global, before: usize, row: &Row) -> (bool, u64) {
+fn agrees_after(alloc: Global, before: usize, row: &Row) -> (bool, u64) {
     let mut memory = Scarce {
         alloc,
         before,
         refusals: 0,
     };
-    let met = meets(alloc, &mut memory, row);
-    (met, memory.refusals)
+    let agreed = agrees(alloc, &mut memory, row);
+    (agreed, memory.refusals)
 }
 
 // The first two calls are for the buffers and the list of the texts, the third for the desk.
@@ -365,7 +365,7 @@ fn tells_memory_that_is_refused(rt: HostRuntime) {
             opened,
         };
         assert!(rt;
-            meets_after(rt.alloc(), before, &row) == (true, 1),
+            agrees_after(rt.alloc(), before, &row) == (true, 1),
             "behind {before}"
         );
     }
@@ -376,5 +376,5 @@ fn tells_memory_that_is_refused(rt: HostRuntime) {
         line: b"",
         opened: 2,
     };
-    assert!(rt; meets_after(rt.alloc(), 3, &row) == (true, 0));
+    assert!(rt; agrees_after(rt.alloc(), 3, &row) == (true, 0));
 }

@@ -84,12 +84,12 @@ static SYSTEM_ROWS: [SystemRow; 7] = [
 fn runs_in_a_system(rt: HostRuntime) {
     for row in &SYSTEM_ROWS {
         let words = row.words;
-        assert!(rt; meets(rt.alloc(), row), "{words:?}");
+        assert!(rt; agrees(rt.alloc(), row), "{words:?}");
     }
 }
 
 /// Whether a run comes to what its row says.
-fn meets(alloc: Global, row: &SystemRow) -> bool {
+fn agrees(alloc: Global, row: &SystemRow) -> bool {
     let mut output = Vec::new(alloc);
     let mut line = Vec::new(alloc);
     let status = run_row(alloc, row, &mut output, &mut line);

@@ -37,7 +37,7 @@ pub(crate) fn passes<R: Files + AllocGlobal + Print>(
         pages: &pages,
         ends,
     };
-    let good = meets_faults(desk, example)?;
+    let good = survives_faults(desk, example)?;
     if !good {
         println!(rt; "other pages or another end at a fault: {name}")?;
     }
@@ -45,13 +45,14 @@ pub(crate) fn passes<R: Files + AllocGlobal + Print>(
 }
 
 /// Whether an example meets each fault as it must, and gives its pages after all of them.
-fn meets_faults(desk: &mut Desk, example: Example<'_>) -> anyhow::Result<bool> {
-    let met = input_fails(desk, example)?
+fn survives_faults(desk: &mut Desk, example: Example<'_>) -> anyhow::Result<bool> {
+    let agreed = input_fails(desk, example)?
         && output_fails(desk, example)
         && writer_fills(desk, example);
     let mut input = Script::new(example.input);
     Ok(
-        met && prefixes_agree(desk, example.input)
+        agreed
+            && prefixes_agree(desk, example.input)
             && gives(
                 desk,
                 &mut input,

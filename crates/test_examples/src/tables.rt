@@ -198,7 +198,7 @@ fn turned<R: Source, W: Sink>(
 }
 
 /// What is wrong, as lines of examples have it.
-fn kind_told(alloc: Global, kind: Kind) -> anyhow::Result<String> {
+fn kind_reported(alloc: Global, kind: Kind) -> anyhow::Result<String> {
     Ok(match kind {
         Kind::NoFormat => format!(in alloc; "NoFormat")?,
         Kind::BadFormat(byte) => format!(in alloc; "BadFormat {}", char::from(byte))?,
@@ -238,7 +238,7 @@ fn end_of(alloc: Global, ran: Ran, complaints: &[Complaint]) -> anyhow::Result<S
         if !ended.is_empty() {
             ended.push_str(", ")?;
         }
-        ended.push_str(&kind_told(alloc, complaint.kind)?)?;
+        ended.push_str(&kind_reported(alloc, complaint.kind)?)?;
         ended.push_str(&format!(in alloc; " on line {}", complaint.line)?)?;
     }
     let uneven = if ended.is_empty() {

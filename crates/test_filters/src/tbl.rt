@@ -225,46 +225,46 @@ static TABLES: [(&str, Page<'static>); 4] = [
 ];
 
 /// A run over texts with tables: its words, its status and its lines.
-struct Told {
+struct ReportCase {
     words: &'static [&'static [u8]],
     status: u8,
     lines: &'static [u8],
 }
 
-static TOLD: [Told; 7] = [
-    Told {
+static REPORT_CASES: [ReportCase; 7] = [
+    ReportCase {
         words: &[b"tbl", b"bad", b"none"],
         status: 1,
         lines: b"tbl: bad:3: more fields than columns\ntbl: bad:6: table without an end, from line 5\n",
     },
     // A table wider than the line is reported, and nothing is wrong with it.
-    Told {
+    ReportCase {
         words: &[b"tbl", b"-l8", b"wide"],
         status: 0,
         lines: b"tbl: wide:4: table wider than the line\n",
     },
-    Told {
+    ReportCase {
         words: &[b"tbl", b"-l9", b"wide"],
         status: 0,
         lines: b"",
     },
-    Told {
+    ReportCase {
         words: &[b"tbl", b"-l3", b"wide", b"none", b"wide"],
         status: 0,
         lines: b"tbl: wide:3: table wider than the line\ntbl: wide:3: table wider than the line\n",
     },
-    Told {
+    ReportCase {
         words: &[b"tbl", b"-l1", b"wide", b"bad"],
         status: 1,
         lines: b"tbl: wide:3: table wider than the line\ntbl: bad:3: more fields than columns\ntbl: bad:6: table without an end, from line 5\n",
     },
     // The line's length is 65 where no word sets it, and the limit on a row is one on its fields together.
-    Told {
+    ReportCase {
         words: &[b"tbl", b"long"],
         status: 0,
         lines: b"tbl: long:3: table wider than the line\n",
     },
-    Told {
+    ReportCase {
         words: &[b"tbl", b"-Lr64", b"-l68", b"long"],
         status: 1,
         lines: b"tbl: long:3: table row limit passed\n",
@@ -273,7 +273,7 @@ static TOLD: [Told; 7] = [
 
 #[test]
 fn tells_of_tables(rt: HostRuntime) {
-    for row in &TOLD {
+    for row in &REPORT_CASES {
         let system = System {
             words: row.words,
             texts: &TABLES,

@@ -125,7 +125,7 @@ fn examples(rt: HostRuntime) {
         };
         assert_eq!(rt; outcome.narrow, row.narrow);
         assert_eq!(rt; outcome.wide, row.wide);
-        assert_eq!(rt; outcome.told, 0);
+        assert_eq!(rt; outcome.reported, 0);
         assert_eq!(rt; outcome.bytes, row.bytes);
         assert_eq!(rt; outcome.shown.as_slice(), row.shown.as_bytes());
     }

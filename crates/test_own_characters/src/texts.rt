@@ -22,7 +22,7 @@ pub struct Outcome {
     pub narrow: usize,
     pub wide: usize,
     /// How many had no room.
-    pub told: usize,
+    pub reported: usize,
     /// How many bytes stood for it.
     pub bytes: usize,
     /// What is shown of it in the end.
@@ -68,7 +68,7 @@ pub fn back_of(alloc: Global, text: &str) -> Result<Outcome, AllocError> {
     let mut wide_cells = vec![in alloc; none; 4_096]?;
     let mut narrow = SliceVec::over(&mut narrow_cells);
     let mut wide = SliceVec::over(&mut wide_cells);
-    let told = choose(ranked.as_slice(), &mut narrow, &mut wide);
+    let reported = choose(ranked.as_slice(), &mut narrow, &mut wide);
     fill_slots(narrow.as_slice(), wide.as_slice(), &mut slots);
     let table = Table::chosen(
         ranked.as_slice(),
@@ -86,7 +86,7 @@ pub fn back_of(alloc: Global, text: &str) -> Result<Outcome, AllocError> {
     Ok(Outcome {
         narrow: narrow.len(),
         wide: wide.len(),
-        told,
+        reported,
         bytes,
         shown,
     })

@@ -7,7 +7,7 @@ use Rattle.utf8_converter.specs.Choosing.{chosen, looked_at}
 use Rattle.utf8_own_page.specs.Needing.{has_all, may_need_own}
 use Rattle.filters.specs.Disk.{is_standard}
 use Rattle.filters.specs.Program as programs
-use Rattle.filters_own.specs.Looking.{LookIsShort, counts_in, front_in}
+use Rattle.filters_own.specs.Looking.{LookIsShort, counts_in, prefix_in}
 
 -- ---- frames
 
@@ -26,35 +26,35 @@ has_tables page = has_table_from true page
 
 -- the fixed table
 abbrev pub fixed_for : List ℕ → Table
-fixed_for front = chosen (take looked_at front)
+fixed_for prefix = chosen (take looked_at prefix)
 
 -- it lacks some of what the page prints, and of what its frames are drawn with
 abbrev pub lacks : Table → List ℕ → Bool
-lacks fixed front = not (has_all fixed (counts_in (has_tables front) front))
+lacks fixed prefix = not (has_all fixed (counts_in (has_tables prefix) prefix))
 
 -- a page that is no standard input, and is beyond ASCII or names such characters, is asked whether it does
 abbrev pub asks_for_own : List ℕ → List ℕ → Bool
-asks_for_own name front = not (is_standard name) && may_need_own front
+asks_for_own name prefix = not (is_standard name) && may_need_own prefix
 
 abbrev pub needs_own : List ℕ → List ℕ → Bool
-needs_own name front = asks_for_own name front && lacks (fixed_for front) front
+needs_own name prefix = asks_for_own name prefix && lacks (fixed_for prefix) prefix
 
 -- THE LINE OF A PAGE, by its name
 abbrev pub line_for : List ℕ → List ℕ → List ℕ
-line_for name front =
-    (if needs_own name front then codes "own:" ++ name else name_of (fixed_for front)) ++ codes "\n"
+line_for name prefix =
+    (if needs_own name prefix then codes "own:" ++ name else name_of (fixed_for prefix)) ++ codes "\n"
 
 abbrev pub IsShortIf : Bool → List ℕ → Type 0
-IsShortIf false front = ⊤
-IsShortIf true front = LookIsShort front
+IsShortIf false prefix = ⊤
+IsShortIf true prefix = LookIsShort prefix
 
 -- it is this one, where what each stage is given that is asked has less than 2^40 bytes
 abbrev pub IsLine : List ℕ → List ℕ → List ℕ → Type 0
-IsLine name front line = IsShortIf (asks_for_own name front) front → line ≡ line_for name front
+IsLine name prefix line = IsShortIf (asks_for_own name prefix) prefix → line ≡ line_for name prefix
 
 abbrev pub IsLineIn : List ℕ → Option (List ℕ) → List ℕ → Type 0
 IsLineIn name None line = ⊤
-IsLineIn name (Some bytes) line = IsLine name (front_in bytes) line
+IsLineIn name (Some bytes) line = IsLine name (prefix_in bytes) line
 
 -- The line of the table of this text is to be printed.
 pub record AsksForChoice (name : List ℕ) (job : programs.Job) : Type 0 where

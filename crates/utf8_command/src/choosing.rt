@@ -9,7 +9,7 @@ ghost use Rattle.utf8_command.specs.Choosing.{ComesToChoice, IsLine};
 use super::program::put_out;
 use document_stages::Text;
 use filters::{BUFFER_SIZE, Disk, Ending, Paths};
-use filters_own::{count_front, first_of, room_for};
+use filters_own::{count_prefix, first_of, room_for};
 use nr_units::sink::Sink;
 use nr_vectors::slice_vec::SliceVec;
 use std::alloc::{AllocError, Global};
@@ -33,12 +33,12 @@ fn has_tables(page: &[u8]) -> bool
 }
 
 /// The fixed table that a page takes, by its first bytes.
-fn fixed_for(alloc: Global, front: &[u8]) -> Result<Table, AllocError>
-    ensures { IfOk result (λ table. table ≡ specs.fixed_for front.now) }
+fn fixed_for(alloc: Global, prefix: &[u8]) -> Result<Table, AllocError>
+    ensures { IfOk result (λ table. table ≡ specs.fixed_for prefix.now) }
 {
     let mut page = vec![in alloc; 0u8; LOOKED_AT]?;
     let mut counts = vec![in alloc; 0u32; CHARACTERS]?;
-    let mut text = Text::over(front);
+    let mut text = Text::over(prefix);
     match choose(&mut text, &mut page, &mut counts) {
         Ok(table) => Ok(table),
         // A slice doesn't fail.
@@ -48,17 +48,17 @@ fn fixed_for(alloc: Global, front: &[u8]) -> Result<Table, AllocError>
 
 /// Whether a page is asked whether it needs a table of its own: it is no standard input, and beyond ASCII or names such
 /// characters.
-fn asks_for_own(name: &str, front: &[u8]) -> bool
-    ensures { result ≡ specs.asks_for_own name.now front.now }
+fn asks_for_own(name: &str, prefix: &[u8]) -> bool
+    ensures { result ≡ specs.asks_for_own name.now prefix.now }
 {
-    name.as_bytes() != b"-".as_slice() && may_need_own(front)
+    name.as_bytes() != b"-".as_slice() && may_need_own(prefix)
 }
 
 /// Whether it does: this fixed one lacks some of what it prints, and of what its frames are drawn with.
-fn lacks(alloc: Global, fixed: Table, front: &[u8]) -> Result<bool, AllocError>
-    ensures { LookIsShort front.now → IfOk result (λ lacks. lacks ≡ specs.lacks fixed front.now) }
+fn lacks(alloc: Global, fixed: Table, prefix: &[u8]) -> Result<bool, AllocError>
+    ensures { LookIsShort prefix.now → IfOk result (λ lacks. lacks ≡ specs.lacks fixed prefix.now) }
 {
-    let counts = count_front(alloc, has_tables(front), front)?;
+    let counts = count_prefix(alloc, has_tables(prefix), prefix)?;
     Ok(!has_all(fixed, &counts))
 }
 
@@ -66,12 +66,12 @@ fn lacks(alloc: Global, fixed: Table, front: &[u8]) -> Result<bool, AllocError>
 fn choice<'a>(
     alloc: Global,
     name: &'a str,
-    front: &[u8],
+    prefix: &[u8],
 ) -> Result<(&'static str, &'a str), AllocError>
-    ensures { IfOk result (λ choice. IsLine name.now front.now (choice.0.now ++ choice.1.now ++ codes "\n")) }
+    ensures { IfOk result (λ choice. IsLine name.now prefix.now (choice.0.now ++ choice.1.now ++ codes "\n")) }
 {
-    let fixed = fixed_for(alloc, front)?;
-    if asks_for_own(name, front) && lacks(alloc, fixed, front)? {
+    let fixed = fixed_for(alloc, prefix)?;
+    if asks_for_own(name, prefix) && lacks(alloc, fixed, prefix)? {
         return Ok(("own:", name));
     }
     Ok((fixed.name(), ""))
@@ -107,12 +107,12 @@ pub(crate) fn choose_for<'a, P: Paths, I: Read + Copy + Drop, W: Sink>(
     let Ok(mut room) = room_for(disk.alloc) else {
         return (Ending::OutOfMemory, output);
     };
-    let mut front = SliceVec::over(&mut room);
-    match first_of(name, disk, &mut input, &mut front) {
+    let mut prefix = SliceVec::over(&mut room);
+    match first_of(name, disk, &mut input, &mut prefix) {
         Ok(_) => {}
         Err(ending) => return (ending, output),
     }
-    match choice(disk.alloc, name, front.as_slice()) {
+    match choice(disk.alloc, name, prefix.as_slice()) {
         Ok((before, file)) => put_choice(before, file, output),
         Err(_) => (Ending::OutOfMemory, output),
     }

@@ -11,7 +11,7 @@ use Rattle.nr_units.specs.declared.source.Fault.{Fault}
 use Rattle.utf8_characters.specs.declared.table.Table.{Table}
 use Rattle.utf8_characters.specs.declared.table.Table.TheVariants.{English, Latin, Cyrillic, Greek, Latin1}
 use Rattle.utf8_characters.specs.Tables.{characters}
-use Rattle.utf8_converter.specs.Choosing.{one_if, character_at, occurrences, covered, better, if_any, fullest, chosen, IsChoice, IsBest, Counts, covered_by, better_by, fullest_by, chosen_by, Chooses, IsFront}
+use Rattle.utf8_converter.specs.Choosing.{one_if, character_at, occurrences, covered, better, if_any, fullest, chosen, IsChoice, IsBest, Counts, covered_by, better_by, fullest_by, chosen_by, Chooses, IsPrefix}
 
 -- ---- counting
 
@@ -164,23 +164,23 @@ chosen-best page = if_best (covered page (fullest page) == 0) page (fullest page
 
 -- ---- the front of an input
 
-front_by : (q t : Supply) (room : ℕ) (items : List ℕ) → length items ≤ room → q.bytes ≡ items ++ t.bytes → (length items ≡ room) ⊎ (t.bytes ≡ []) → take room q.bytes ≡ items
-front_by q t room items within came (inl full) =
+prefix_by : (q t : Supply) (room : ℕ) (items : List ℕ) → length items ≤ room → q.bytes ≡ items ++ t.bytes → (length items ≡ room) ⊎ (t.bytes ≡ []) → take room q.bytes ≡ items
+prefix_by q t room items within came (inl full) =
     ap (λ (n : ℕ). take n q.bytes) (sym full) ∙ ap (take (length items)) came ∙ take-append_seam items t.bytes
-front_by q t room items within came (inr ends) =
+prefix_by q t room items within came (inr ends) =
     let all : q.bytes ≡ items = came ∙ ap (λ (ys : List ℕ). items ++ ys) ends ∙ append-nil items in
     ap (take room) all ∙ take_all room items within
 
-pub front-is : (q : Supply) (new : Option Supply) (room : ℕ) (items : List ℕ) → length items ≤ room → IsFront (Some q) new room items → take room q.bytes ≡ items
-front-is q None room items within f = absurd f.came
-front-is q (Some t) room items within f = front_by q t room items within f.came f.whole
+pub prefix-is : (q : Supply) (new : Option Supply) (room : ℕ) (items : List ℕ) → length items ≤ room → IsPrefix (Some q) new room items → take room q.bytes ≡ items
+prefix-is q None room items within f = absurd f.came
+prefix-is q (Some t) room items within f = prefix_by q t room items within f.came f.whole
 
-pub chooses : (a b : Option Supply) (room : ℕ) (items counts : List ℕ) (table : Table) → room ≡ 65536 → length items ≤ room → IsFront a b room items
+pub chooses : (a b : Option Supply) (room : ℕ) (items counts : List ℕ) (table : Table) → room ≡ 65536 → length items ≤ room → IsPrefix a b room items
     → Counts items (length items) counts → length counts ≡ 10240 → table ≡ chosen_by counts → Chooses {E = Fault} a (Ok table)
 chooses None b room items counts table whole within f h long is = tt
 chooses (Some q) b room items counts table whole within f h long is =
-    let front : take 65536 q.bytes ≡ items = ap (λ (n : ℕ). take n q.bytes) (sym whole) ∙ front-is q b room items within f in
+    let prefix : take 65536 q.bytes ≡ items = ap (λ (n : ℕ). take n q.bytes) (sym whole) ∙ prefix-is q b room items within f in
     let same : table ≡ chosen items = is ∙ chosen-same items counts h long in
     let P : List ℕ → Type 0 = λ page. (table ≡ chosen page) × IsBest page table in
     let Q : Table → Type 0 = λ t. IsBest items t in
-    subst P (sym front) (same, subst Q (sym same) (chosen-best items))
+    subst P (sym prefix) (same, subst Q (sym same) (chosen-best items))

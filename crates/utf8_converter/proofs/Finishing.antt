@@ -6,15 +6,15 @@ use Rattle.std.specs.Io.KnownBytes.{Appends}
 use Rattle.nr_units.specs.Failures.{SinkFailures, next_count, put_counted}
 use Rattle.nr_units.specs.Sink.{AppendsPrefix}
 use Rattle.nr_units.specs.declared.source.Fault.{Fault}
-use Rattle.document_stages.specs.Running.{FrontAtErr, at_most}
+use Rattle.document_stages.specs.Running.{PrefixAtErr, at_most}
 use Rattle.utf8_characters.specs.declared.table.Table.{Table}
 use Rattle.utf8_characters.specs.declared.table.Table.TheVariants.{English, Latin, Cyrillic, Greek, Latin1}
 use Rattle.utf8_converter.specs.declared.reader.Reader.{Reader}
 use Rattle.utf8_converter.specs.Cells.{converted, strays_of}
 use Rattle.utf8_converter.specs.Reading.{ended, fed, first_reader}
-use Rattle.utf8_converter.specs.Showing.{Broke, Finishes, Fronts, IsCutOff, IsShown, Making, Sends, Stands, StandsOr, counted_bytes, made_of, number_of}
+use Rattle.utf8_converter.specs.Showing.{Broke, Finishes, AddsPrefix, IsCutOff, IsShown, Making, Sends, Stands, StandsOr, counted_bytes, made_of, number_of}
 use Rattle.utf8_converter.proofs.Kept.{converted-fed, strays-fed}
-use Rattle.utf8_converter.proofs.Passing.{Broke-more, Fronts-Appends, Fronts-more, Fronts-of, Sends-all, at_most-two}
+use Rattle.utf8_converter.proofs.Passing.{Broke-more, AddsPrefix-Appends, AddsPrefix-more, AddsPrefix-of, Sends-all, at_most-two}
 use Rattle.utf8_converter.proofs.Text.{converted-lines}
 
 -- ---- how it ends
@@ -32,10 +32,10 @@ Sends-prop None held waits text = hlevel props
 Sends-prop (Some xs) None waits text = hlevel props
 Sends-prop (Some xs) (Some ys) waits text = hlevel props
 
-Fronts-prop : (begun held : Option (List ℕ)) (text : List ℕ) → IsProp (Fronts begun held text)
-Fronts-prop None held text = hlevel props
-Fronts-prop (Some xs) None text = hlevel props
-Fronts-prop (Some xs) (Some ys) text = hlevel props
+AddsPrefix-prop : (begun held : Option (List ℕ)) (text : List ℕ) → IsProp (AddsPrefix begun held text)
+AddsPrefix-prop None held text = hlevel props
+AddsPrefix-prop (Some xs) None text = hlevel props
+AddsPrefix-prop (Some xs) (Some ys) text = hlevel props
 
 list_prop : (xs ys : List ℕ) → IsProp (xs ≡ ys)
 list_prop xs ys = hlevel props
@@ -58,7 +58,7 @@ pub broke : (m : Making) (came : List ℕ) (held : Option (List ℕ)) (failed : 
 broke m came held failed br =
     let F = fed (first_reader m.table m.escapes) came in
     record {
-      out = ∥∥₁_elim br (Fronts-prop m.begun held F.bytes) (λ b. b.out);
+      out = ∥∥₁_elim br (AddsPrefix-prop m.begun held F.bytes) (λ b. b.out);
       one = ∥∥₁_elim br (number_prop failed (next_count m.failed)) (λ b. b.one);
     }
 
@@ -79,13 +79,13 @@ Shown-whole m came a b f g r p i n st went same count =
 
 pub Shown-cut : (m : Making) (came : List ℕ) (a b : Option (List ℕ)) (f g : ℕ) (r : Reader) (p : List ℕ) (i : ℕ) → Ready m came a f r p i → AppendsPrefix a b (p ++ (ended r).bytes) → g ≡ next_count f
     → IsCutOff m came b g
-Shown-cut m came a b f g r p i st front one =
+Shown-cut m came a b f g r p i st prefix one =
     let first = first_reader m.table m.escapes in
     let F = fed first came in
     let whole : F.bytes ++ (ended r).bytes ≡ converted m.table m.escapes came = ap (λ (xs : List ℕ). F.bytes ++ xs) st.rest ∙ sym (converted-fed m.table m.escapes came) in
     let P : List ℕ → Type 0 = λ xs. AppendsPrefix m.begun b xs in
     record {
-      went_out = subst P whole (Fronts-Appends m.begun b (F.bytes ++ (ended r).bytes) (Fronts-of m.begun a b p F.bytes (ended r).bytes st.out front));
+      went_out = subst P whole (AddsPrefix-Appends m.begun b (F.bytes ++ (ended r).bytes) (AddsPrefix-of m.begun a b p F.bytes (ended r).bytes st.out prefix));
       one = one ∙ ap next_count st.none;
     }
 
@@ -95,7 +95,7 @@ Shown-broke m came a f br =
     let F = fed first came in
     let P : List ℕ → Type 0 = λ xs. AppendsPrefix m.begun a xs in
     record {
-      went_out = subst P (sym (converted-fed m.table m.escapes came)) (Fronts-Appends m.begun a (F.bytes ++ (ended F.reader).bytes) (Fronts-more m.begun a F.bytes (ended F.reader).bytes br.out));
+      went_out = subst P (sym (converted-fed m.table m.escapes came)) (AddsPrefix-Appends m.begun a (F.bytes ++ (ended F.reader).bytes) (AddsPrefix-more m.begun a F.bytes (ended F.reader).bytes br.out));
       one = br.one;
     }
 
@@ -127,7 +127,7 @@ append_same (v ∷ vs) (w ∷ ws) xs ys l e =
     let head : v ≡ w = cc in
     let tail : vs ++ xs ≡ ws ++ ys = cc in
     let both = append_same vs ws xs ys (omega (arith, l)) tail in
-    let front : vs ≡ ws = both.0 in
+    let prefix : vs ≡ ws = both.0 in
     (cc, both.1)
 
 counted_same : (a b : Option (List ℕ)) (xs ys : List ℕ) → counted_bytes a ++ xs ≡ counted_bytes b ++ ys → SameBytes a b xs ys
@@ -180,26 +180,26 @@ ends-broken true m n came more value a f r p i broken st is says =
     let Q : List ℕ → Type 0 = λ xs. IsCutOff m xs a f in
     subst P same.making (subst Q same.rest (Shown-broke m came a f (broke m came a f st)))
 
-pub ends-short : (z : Bool) (m n : Making) (came front more value : List ℕ) (a : Option (List ℕ)) (f : ℕ) (r : Reader) (p : List ℕ) (i : ℕ) → z ≡ true → ∥ StandsOr z m came a f r p i ∥₁
-    → made_of m ++ came ≡ value → value ≡ made_of n ++ front → AppendsPrefix n.begun a (converted n.table n.escapes (front ++ more))
-ends-short false m n came front more value a f r p i broken st is says = absurd (let never : false ≡ true = broken in cc)
-ends-short true m n came front more value a f r p i broken st is says =
-    let same = same-making m n came front (is ∙ says) in
-    let P : Making → Type 0 = λ x. AppendsPrefix x.begun a (converted x.table x.escapes (front ++ more)) in
+pub ends-short : (z : Bool) (m n : Making) (came prefix more value : List ℕ) (a : Option (List ℕ)) (f : ℕ) (r : Reader) (p : List ℕ) (i : ℕ) → z ≡ true → ∥ StandsOr z m came a f r p i ∥₁
+    → made_of m ++ came ≡ value → value ≡ made_of n ++ prefix → AppendsPrefix n.begun a (converted n.table n.escapes (prefix ++ more))
+ends-short false m n came prefix more value a f r p i broken st is says = absurd (let never : false ≡ true = broken in cc)
+ends-short true m n came prefix more value a f r p i broken st is says =
+    let same = same-making m n came prefix (is ∙ says) in
+    let P : Making → Type 0 = λ x. AppendsPrefix x.begun a (converted x.table x.escapes (prefix ++ more)) in
     let Q : List ℕ → Type 0 = λ xs. AppendsPrefix m.begun a (converted m.table m.escapes (xs ++ more)) in
     subst P same.making (subst Q same.rest (broke-more m came more a f (broke m came a f st)))
 
 finishes : (m : Making) (came : List ℕ) (a b : Option (List ℕ)) (f g : SinkFailures) (r : Reader) (p : List ℕ) (i : ℕ) (x : Result ℕ Fault) → Ready m came a f.puts r p i
-    → OnOk x (Appends a b (p ++ (ended r).bytes)) → FrontAtErr x a b (p ++ (ended r).bytes) → IfOk x (λ n. n ≡ at_most (i + (ended r).strays)) → g ≡ put_counted f x → Finishes m came b g.puts x
-finishes m came a b f g r p i (Ok n) st went front count failed = Shown-whole m came a b f.puts g.puts r p i n st went (ap (λ (q : SinkFailures). q.puts) failed) count
-finishes m came a b f g r p i (Err e) st went front count failed = Shown-cut m came a b f.puts g.puts r p i st front (ap (λ (q : SinkFailures). q.puts) failed)
+    → OnOk x (Appends a b (p ++ (ended r).bytes)) → PrefixAtErr x a b (p ++ (ended r).bytes) → IfOk x (λ n. n ≡ at_most (i + (ended r).strays)) → g ≡ put_counted f x → Finishes m came b g.puts x
+finishes m came a b f g r p i (Ok n) st went prefix count failed = Shown-whole m came a b f.puts g.puts r p i n st went (ap (λ (q : SinkFailures). q.puts) failed) count
+finishes m came a b f g r p i (Err e) st went prefix count failed = Shown-cut m came a b f.puts g.puts r p i st prefix (ap (λ (q : SinkFailures). q.puts) failed)
 
 pub ends : (z : Bool) (m n : Making) (came more value : List ℕ) (a b : Option (List ℕ)) (f g : SinkFailures) (r : Reader) (p : List ℕ) (i : ℕ) (x : Result ℕ Fault) → z ≡ false
     → ∥ StandsOr z m came a f.puts r p i ∥₁ → made_of m ++ came ≡ value → value ≡ made_of n ++ more
-    → OnOk x (Appends a b (p ++ (ended r).bytes)) → FrontAtErr x a b (p ++ (ended r).bytes) → IfOk x (λ n. n ≡ at_most (i + (ended r).strays)) → g ≡ put_counted f x → Finishes n more b g.puts x
-ends true m n came more value a b f g r p i x whole st is says went front count failed = absurd (let never : true ≡ false = whole in cc)
-ends false m n came more value a b f g r p i x whole st is says went front count failed =
+    → OnOk x (Appends a b (p ++ (ended r).bytes)) → PrefixAtErr x a b (p ++ (ended r).bytes) → IfOk x (λ n. n ≡ at_most (i + (ended r).strays)) → g ≡ put_counted f x → Finishes n more b g.puts x
+ends true m n came more value a b f g r p i x whole st is says went prefix count failed = absurd (let never : true ≡ false = whole in cc)
+ends false m n came more value a b f g r p i x whole st is says went prefix count failed =
     let same = same-making m n came more (is ∙ says) in
     let P : Making → Type 0 = λ y. Finishes y more b g.puts x in
     let Q : List ℕ → Type 0 = λ xs. Finishes m xs b g.puts x in
-    subst P same.making (subst Q same.rest (finishes m came a b f g r p i x (ready m came a f.puts r p i st) went front count failed))
+    subst P same.making (subst Q same.rest (finishes m came a b f g r p i x (ready m came a f.puts r p i st) went prefix count failed))

@@ -10,7 +10,7 @@ use Rattle.utf8_converter.specs.declared.reader.Half.TheVariants.{Nothing}
 use Rattle.utf8_converter.specs.declared.reader.Reader.{Reader}
 use Rattle.utf8_converter.specs.declared.spelling.Spelling.{Spelling}
 use Rattle.utf8_converter.specs.Cells.{Over, drawn, goes_out, shows, strikes, text, turning}
-use Rattle.utf8_converter.specs.Reading.{Told, behind, fed, out, released, told, turned, with_half}
+use Rattle.utf8_converter.specs.Reading.{Emitted, preceded, fed, out, released, emitted, turned, with_half}
 use Rattle.utf8_converter.specs.Spelling.{Fills, Goes, IsFresh, Makes, Puts, Reads, Serves, Spells, begins, byte_of, half_after, half_text, is_shut, owed}
 use Rattle.utf8_converter.proofs.Held.{Makes-half, Makes-held, Makes-table, begins-released, fed-begins, goes-no_back}
 use Rattle.utf8_converter.proofs.Makes.{Makes-gap, Makes-none, Makes-once, Makes-struck, Makes-then, shut_turning, turned-shut}
@@ -154,10 +154,10 @@ Puts-alone b r s old mid new from to end goes is first last =
 -- ---- what is at the front of a room
 
 pub Reads-none : (r s : Reader) (bs room : List ℕ) → s ≡ r → Reads r s bs 0 room 0
-Reads-none r s bs room e = record { all = ap (λ (q : Reader). told q [] 0) (sym e); within = omega arith }
+Reads-none r s bs room e = record { all = ap (λ (q : Reader). emitted q [] 0) (sym e); within = omega arith }
 
 record Cut (end n : ℕ) (new xs : List ℕ) : Type 0 where
-  front : take (end - n) new ≡ xs
+  prefix : take (end - n) new ≡ xs
   few : n ≤ end
 
 cut_off : (new xs ys : List ℕ) (end : ℕ) → end ≤ length new → take end new ≡ xs ++ ys → Cut end (length ys) new xs
@@ -167,19 +167,19 @@ cut_off new xs ys end l e =
     let both = length-append xs ys in
     let at : end - length ys ≡ length xs = omega (arith, size, same, both) in
     record {
-      front = sym (take-take (end - length ys) end new (omega arith)) ∙ ap (λ (zs : List ℕ). take (end - length ys) zs) e ∙ ap (λ (n : ℕ). take n (xs ++ ys)) at
+      prefix = sym (take-take (end - length ys) end new (omega arith)) ∙ ap (λ (zs : List ℕ). take (end - length ys) zs) e ∙ ap (λ (n : ℕ). take n (xs ++ ys)) at
           ∙ take-append-le (length xs) xs ys (omega arith) ∙ take_all (length xs) xs (omega arith);
       few = omega (arith, size, same, both);
     }
 
-record Front (r0 s : Reader) (bs : List ℕ) (n : ℕ) (new : List ℕ) (end : ℕ) : Type 0 where
+record Prefix (r0 s : Reader) (bs : List ℕ) (n : ℕ) (new : List ℕ) (end : ℕ) : Type 0 where
   reads : Reads r0 (with_half (half_after s.table (take n bs)) s) bs n new (end - length (half_text s.table (half_after s.table (take n bs))))
   few : length (half_text s.table (half_after s.table (take n bs))) ≤ end
 
-fronts : (r0 r s : Reader) (xs : List ℕ) (bs : List ℕ) (n : ℕ) (room mid new : List ℕ) (begin end m : ℕ) → take n bs ≡ xs → 0 < length xs → begins r0 (get_or xs 0 0) ≡ true
-    → Fills (released r0.half r0) r room 0 mid begin m → Goes r s bs n mid begin new end → end ≤ length new → Front r0 s bs n new end
-fronts r0 r s [] bs n room mid new begin end m is some begin_is fills g l = absurd (omega (arith, some))
-fronts r0 r s (b ∷ rest) bs n room mid new begin end m is some begin_is fills g l =
+prefixes : (r0 r s : Reader) (xs : List ℕ) (bs : List ℕ) (n : ℕ) (room mid new : List ℕ) (begin end m : ℕ) → take n bs ≡ xs → 0 < length xs → begins r0 (get_or xs 0 0) ≡ true
+    → Fills (released r0.half r0) r room 0 mid begin m → Goes r s bs n mid begin new end → end ≤ length new → Prefix r0 s bs n new end
+prefixes r0 r s [] bs n room mid new begin end m is some begin_is fills g l = absurd (omega (arith, some))
+prefixes r0 r s (b ∷ rest) bs n room mid new begin end m is some begin_is fills g l =
     let B = (released r0.half r0).bytes in
     let P : List ℕ → Type 0 = λ ys. Makes r s ys g.out in
     let half : r.half ≡ Nothing = ap (λ (q : Reader). q.half) fills.reader ∙ (begins-released r0.half b r0 refl begin_is).1 in
@@ -188,33 +188,33 @@ fronts r0 r s (b ∷ rest) bs n room mid new begin end m is some begin_is fills 
     let H = half_after r.table (b ∷ rest) in
     let same : half_after s.table (take n bs) ≡ H = ap (λ (t : Table). half_after t (take n bs)) table ∙ ap (λ (ys : List ℕ). half_after r.table ys) is in
     let text_same : half_text s.table (half_after s.table (take n bs)) ≡ half_text r.table H = ap (λ (t : Table). half_text t (half_after s.table (take n bs))) table ∙ ap (λ (h : Half). half_text r.table h) same in
-    let all : take end new ≡ (B ++ held.front) ++ half_text r.table H =
-    g.put ∙ ap (λ (ys : List ℕ). ys ++ g.out) fills.put ∙ ap (λ (ys : List ℕ). B ++ ys) held.split ∙ sym (append_assoc B held.front (half_text r.table H)) in
-    let cut = cut_off new (B ++ held.front) (half_text r.table H) end l all in
-    let fed_is : fed r0 (b ∷ rest) ≡ told (with_half H s) (B ++ held.front) 0 =
-    fed-begins b rest r0 r B begin_is fills.reader refl ∙ ap (λ (t : Told). behind B 0 t) held.all in
-    let Q : List ℕ → Type 0 = λ ys. fed r0 ys ≡ told (with_half H s) (take (end - length (half_text r.table H)) new) 0 in
-    let front : fed r0 (take n bs) ≡ told (with_half H s) (take (end - length (half_text r.table H)) new) 0 = subst Q (sym is) (fed_is ∙ ap (λ (ys : List ℕ). told (with_half H s) ys 0) (sym cut.front)) in
+    let all : take end new ≡ (B ++ held.prefix) ++ half_text r.table H =
+    g.put ∙ ap (λ (ys : List ℕ). ys ++ g.out) fills.put ∙ ap (λ (ys : List ℕ). B ++ ys) held.split ∙ sym (append_assoc B held.prefix (half_text r.table H)) in
+    let cut = cut_off new (B ++ held.prefix) (half_text r.table H) end l all in
+    let fed_is : fed r0 (b ∷ rest) ≡ emitted (with_half H s) (B ++ held.prefix) 0 =
+    fed-begins b rest r0 r B begin_is fills.reader refl ∙ ap (λ (t : Emitted). preceded B 0 t) held.all in
+    let Q : List ℕ → Type 0 = λ ys. fed r0 ys ≡ emitted (with_half H s) (take (end - length (half_text r.table H)) new) 0 in
+    let prefix : fed r0 (take n bs) ≡ emitted (with_half H s) (take (end - length (half_text r.table H)) new) 0 = subst Q (sym is) (fed_is ∙ ap (λ (ys : List ℕ). emitted (with_half H s) ys 0) (sym cut.prefix)) in
     record {
       reads = record {
-        all = front ∙ ap (λ (h : Half). told (with_half h s) (take (end - length (half_text r.table H)) new) 0) (sym same) ∙ ap (λ (ys : List ℕ). told (with_half (half_after s.table (take n bs)) s) (take (end - length ys) new) 0) (sym text_same);
+        all = prefix ∙ ap (λ (h : Half). emitted (with_half h s) (take (end - length (half_text r.table H)) new) 0) (sym same) ∙ ap (λ (ys : List ℕ). emitted (with_half (half_after s.table (take n bs)) s) (take (end - length ys) new) 0) (sym text_same);
         within = g.within;
       };
       few = (let size : length (half_text s.table (half_after s.table (take n bs))) ≡ length (half_text r.table H) = ap length text_same in let far = cut.few in omega (arith, size, far));
     }
 
-first_of_front : (bs : List ℕ) (n : ℕ) → 0 < n → 0 < length bs → get_or (take n bs) 0 0 ≡ get_or bs 0 0
-first_of_front bs n some more = get_or-take n bs 0 0 some
+first_of_prefix : (bs : List ℕ) (n : ℕ) → 0 < n → 0 < length bs → get_or (take n bs) 0 0 ≡ get_or bs 0 0
+first_of_prefix bs n some more = get_or-take n bs 0 0 some
 
 -- what stands at the front of a room once what was half read, cells, and what is half read then were taken out
-pub Reads-front : (r0 r s : Reader) (bs : List ℕ) (n : ℕ) (room mid new : List ℕ) (begin end m : ℕ) → 0 < n → 0 < length bs → begins r0 (get_or bs 0 0) ≡ true
+pub Reads-prefix : (r0 r s : Reader) (bs : List ℕ) (n : ℕ) (room mid new : List ℕ) (begin end m : ℕ) → 0 < n → 0 < length bs → begins r0 (get_or bs 0 0) ≡ true
     → Fills (released r0.half r0) r room 0 mid begin m → Goes r s bs n mid begin new end → end ≤ length new
     → Reads r0 (with_half (half_after s.table (take n bs)) s) bs n new (end - length (half_text s.table (half_after s.table (take n bs))))
-Reads-front r0 r s bs n room mid new begin end m some more begin_is fills g l =
+Reads-prefix r0 r s bs n room mid new begin end m some more begin_is fills g l =
     let within : n ≤ length bs = g.within in
     let cut = length-take-le n bs within in
     let P : ℕ → Type 0 = λ b. begins r0 b ≡ true in
-    (fronts r0 r s (take n bs) bs n room mid new begin end m refl (omega (arith, cut, some)) (subst P (sym (first_of_front bs n some more)) begin_is) fills g l).reads
+    (prefixes r0 r s (take n bs) bs n room mid new begin end m refl (omega (arith, cut, some)) (subst P (sym (first_of_prefix bs n some more)) begin_is) fills g l).reads
 
 pub Reads-few : (r0 r s : Reader) (bs : List ℕ) (n : ℕ) (room mid new : List ℕ) (begin end m : ℕ) → 0 < n → 0 < length bs → begins r0 (get_or bs 0 0) ≡ true
     → Fills (released r0.half r0) r room 0 mid begin m → Goes r s bs n mid begin new end → end ≤ length new → length (half_text s.table (half_after s.table (take n bs))) ≤ end
@@ -222,4 +222,4 @@ Reads-few r0 r s bs n room mid new begin end m some more begin_is fills g l =
     let within : n ≤ length bs = g.within in
     let cut = length-take-le n bs within in
     let P : ℕ → Type 0 = λ b. begins r0 b ≡ true in
-    (fronts r0 r s (take n bs) bs n room mid new begin end m refl (omega (arith, cut, some)) (subst P (sym (first_of_front bs n some more)) begin_is) fills g l).few
+    (prefixes r0 r s (take n bs) bs n room mid new begin end m refl (omega (arith, cut, some)) (subst P (sym (first_of_prefix bs n some more)) begin_is) fills g l).few

@@ -8,23 +8,23 @@ use Rattle.utf8_converter.specs.declared.reader.Half.TheVariants.{Nothing, Byte,
 use Rattle.utf8_converter.specs.declared.reader.Reader.{Reader}
 use Rattle.utf8_converter.specs.declared.spelling.Spelling.{Spelling}
 use Rattle.utf8_converter.specs.Cells.{Once, Over, goes_out, shows, strikes, text}
-use Rattle.utf8_converter.specs.Reading.{Told, behind, ended, fed, fresh, out, put_alone, read, read_after, released, released_and_fresh, then_told, told, with_half}
+use Rattle.utf8_converter.specs.Reading.{Emitted, preceded, ended, fed, fresh, out, put_alone, read, read_after, released, released_and_fresh, then_emitted, emitted, with_half}
 use Rattle.utf8_converter.specs.Spelling.{Makes, Reads, Serves, Spells, begins_by, half_after, half_text, let_go, let_go_by, rests, rests_by}
-use Rattle.utf8_converter.proofs.Makes.{more_strays, put_alone-half, read-fresh, shut_to, shut_turning, then-then, told-if, told-not, with-same}
-use Rattle.utf8_converter.proofs.Reading.{behind-none, told-eq}
+use Rattle.utf8_converter.proofs.Makes.{more_strays, put_alone-half, read-fresh, shut_to, shut_turning, then-then, emitted-if, emitted-not, with-same}
+use Rattle.utf8_converter.proofs.Reading.{preceded-none, emitted-eq}
 use Rattle.utf8_converter.proofs.Spelled.{byte-text}
 
 -- ---- the table stays
 
-table_if : (x : Bool) (t u : Told) (table : Table) → t.reader.table ≡ table → u.reader.table ≡ table → (if x then t else u).reader.table ≡ table
+table_if : (x : Bool) (t u : Emitted) (table : Table) → t.reader.table ≡ table → u.reader.table ≡ table → (if x then t else u).reader.table ≡ table
 table_if true t u table p q = p
 table_if false t u table p q = q
 
 alone_table : (b : ℕ) (r : Reader) → (put_alone b r).reader.table ≡ r.table
-alone_table b r = table_if (goes_out r.table b) (out (Once b) r) (told r [] 1) r.table refl refl
+alone_table b r = table_if (goes_out r.table b) (out (Once b) r) (emitted r [] 1) r.table refl refl
 
 fresh_table : (b : ℕ) (r : Reader) → (fresh b r).reader.table ≡ r.table
-fresh_table b r = table_if (shows r.table b) (told (with_half (Byte b) r) [] 0) (put_alone b r) r.table refl (alone_table b r)
+fresh_table b r = table_if (shows r.table b) (emitted (with_half (Byte b) r) [] 0) (put_alone b r) r.table refl (alone_table b r)
 
 pub released-table : (h : Half) (r : Reader) → (released h r).reader.table ≡ r.table
 released-table Nothing r = refl
@@ -34,14 +34,14 @@ released-table (Backspaced a) r = alone_table a (with_half Nothing r)
 apart_table : (b : ℕ) (r : Reader) → (released_and_fresh b r).reader.table ≡ r.table
 apart_table b r = fresh_table b (released r.half r).reader ∙ released-table r.half r
 
-behind_table : (h : Half) (b : ℕ) (r : Reader) → (read_after h b r).reader.table ≡ r.table
-behind_table Nothing b r = fresh_table b r
-behind_table (Byte a) b r = table_if (b == 8) (told (with_half (Backspaced a) r) [] 0) (released_and_fresh b r) r.table refl (apart_table b r)
-behind_table (Backspaced a) b r = table_if (strikes r.table a b) (out (Over a b) (with_half Nothing r)) (released_and_fresh b r) r.table refl (apart_table b r)
+after_table : (h : Half) (b : ℕ) (r : Reader) → (read_after h b r).reader.table ≡ r.table
+after_table Nothing b r = fresh_table b r
+after_table (Byte a) b r = table_if (b == 8) (emitted (with_half (Backspaced a) r) [] 0) (released_and_fresh b r) r.table refl (apart_table b r)
+after_table (Backspaced a) b r = table_if (strikes r.table a b) (out (Over a b) (with_half Nothing r)) (released_and_fresh b r) r.table refl (apart_table b r)
 
 pub fed-table : (r : Reader) (bs : List ℕ) → (fed r bs).reader.table ≡ r.table
 fed-table r [] = refl
-fed-table r (b ∷ bs) = fed-table (read b r).reader bs ∙ behind_table r.half b r
+fed-table r (b ∷ bs) = fed-table (read b r).reader bs ∙ after_table r.half b r
 
 -- ---- what is half read behind a byte
 
@@ -56,10 +56,10 @@ half_by struck seen b = if struck || not seen then Nothing else Byte b
 
 fresh_by : (x : Bool) (b : ℕ) (r : Reader) → shows r.table b ≡ x → r.half ≡ Nothing → (fresh b r).reader.half ≡ half_by false (shows r.table b) b
 fresh_by true b r e none =
-    ap (λ (t : Told). t.reader.half) (told-if (shows r.table b) (told (with_half (Byte b) r) [] 0) (put_alone b r) e)
+    ap (λ (t : Emitted). t.reader.half) (emitted-if (shows r.table b) (emitted (with_half (Byte b) r) [] 0) (put_alone b r) e)
     ∙ ap (λ (x : Bool). half_by false x b) (sym e)
 fresh_by false b r e none =
-    ap (λ (t : Told). t.reader.half) (told-not (shows r.table b) (told (with_half (Byte b) r) [] 0) (put_alone b r) e)
+    ap (λ (t : Emitted). t.reader.half) (emitted-not (shows r.table b) (emitted (with_half (Byte b) r) [] 0) (put_alone b r) e)
     ∙ put_alone-half b r ∙ none ∙ ap (λ (x : Bool). half_by false x b) (sym e)
 
 fresh-half : (b : ℕ) (r : Reader) → r.half ≡ Nothing → (fresh b r).reader.half ≡ half_by false (shows r.table b) b
@@ -79,27 +79,27 @@ apart-half b r =
 apart_strays : (a b : ℕ) (r : Reader) → r.half ≡ Backspaced a → 0 < (released_and_fresh b r).strays
 apart_strays a b r e =
     let same : (released_and_fresh b r).strays ≡ (1 + (put_alone a (with_half Nothing r)).strays) + (fresh b (put_alone a (with_half Nothing r)).reader).strays =
-    ap (λ (h : Half). (then_told (released h r) (λ s. fresh b s)).strays) e in
+    ap (λ (h : Half). (then_emitted (released h r) (λ s. fresh b s)).strays) e in
     omega (arith, same)
 
-by_back : (x : Bool) (a b : ℕ) (r : Reader) → (b == 8) ≡ x → (if b == 8 then told (with_half (Backspaced a) r) [] 0 else released_and_fresh b r).strays ≡ 0
-    → rests (if b == 8 then told (with_half (Backspaced a) r) [] 0 else released_and_fresh b r).reader ≡ true
-    → (if b == 8 then told (with_half (Backspaced a) r) [] 0 else released_and_fresh b r).reader.half ≡ half_by false (shows r.table b) b
+by_back : (x : Bool) (a b : ℕ) (r : Reader) → (b == 8) ≡ x → (if b == 8 then emitted (with_half (Backspaced a) r) [] 0 else released_and_fresh b r).strays ≡ 0
+    → rests (if b == 8 then emitted (with_half (Backspaced a) r) [] 0 else released_and_fresh b r).reader ≡ true
+    → (if b == 8 then emitted (with_half (Backspaced a) r) [] 0 else released_and_fresh b r).reader.half ≡ half_by false (shows r.table b) b
 by_back true a b r e none rested =
-    let here = told-if (b == 8) (told (with_half (Backspaced a) r) [] 0) (released_and_fresh b r) e in
-    let bad : false ≡ true = sym (ap (λ (t : Told). rests t.reader) here) ∙ rested in
+    let here = emitted-if (b == 8) (emitted (with_half (Backspaced a) r) [] 0) (released_and_fresh b r) e in
+    let bad : false ≡ true = sym (ap (λ (t : Emitted). rests t.reader) here) ∙ rested in
     absurd (cc)
 by_back false a b r e none rested =
-    ap (λ (t : Told). t.reader.half) (told-not (b == 8) (told (with_half (Backspaced a) r) [] 0) (released_and_fresh b r) e) ∙ apart-half b r
+    ap (λ (t : Emitted). t.reader.half) (emitted-not (b == 8) (emitted (with_half (Backspaced a) r) [] 0) (released_and_fresh b r) e) ∙ apart-half b r
 
 by_strike : (x : Bool) (a b : ℕ) (r : Reader) → strikes r.table a b ≡ x → r.half ≡ Backspaced a
     → (if strikes r.table a b then out (Over a b) (with_half Nothing r) else released_and_fresh b r).strays ≡ 0
     → (if strikes r.table a b then out (Over a b) (with_half Nothing r) else released_and_fresh b r).reader.half ≡ half_by true (shows r.table b) b
-by_strike true a b r e half none = ap (λ (t : Told). t.reader.half) (told-if (strikes r.table a b) (out (Over a b) (with_half Nothing r)) (released_and_fresh b r) e)
+by_strike true a b r e half none = ap (λ (t : Emitted). t.reader.half) (emitted-if (strikes r.table a b) (out (Over a b) (with_half Nothing r)) (released_and_fresh b r) e)
 by_strike false a b r e half none =
-    let here = told-not (strikes r.table a b) (out (Over a b) (with_half Nothing r)) (released_and_fresh b r) e in
+    let here = emitted-not (strikes r.table a b) (out (Over a b) (with_half Nothing r)) (released_and_fresh b r) e in
     let some = apart_strays a b r half in
-    let count : (released_and_fresh b r).strays ≡ 0 = sym (ap (λ (t : Told). t.strays) here) ∙ none in
+    let count : (released_and_fresh b r).strays ≡ 0 = sym (ap (λ (t : Emitted). t.strays) here) ∙ none in
     absurd (omega (arith, some, count))
 
 last_by : (h : Half) (b : ℕ) (r : Reader) → r.half ≡ h → (read_after h b r).strays ≡ 0 → rests (read_after h b r).reader ≡ true
@@ -135,11 +135,11 @@ backed_back : (x : Bool) (a b : ℕ) (r : Reader) → strikes r.table a b ≡ x 
     → is_backed (if strikes r.table a b then out (Over a b) (with_half Nothing r) else released_and_fresh b r).reader.half ≡ (b == 8)
 unfolding is_backed
 backed_back true a b r e half none =
-    ap (λ (t : Told). is_backed t.reader.half) (told-if (strikes r.table a b) (out (Over a b) (with_half Nothing r)) (released_and_fresh b r) e) ∙ sym (strikes-other r.table a b e)
+    ap (λ (t : Emitted). is_backed t.reader.half) (emitted-if (strikes r.table a b) (out (Over a b) (with_half Nothing r)) (released_and_fresh b r) e) ∙ sym (strikes-other r.table a b e)
 backed_back false a b r e half none =
-    let here = told-not (strikes r.table a b) (out (Over a b) (with_half Nothing r)) (released_and_fresh b r) e in
+    let here = emitted-not (strikes r.table a b) (out (Over a b) (with_half Nothing r)) (released_and_fresh b r) e in
     let some = apart_strays a b r half in
-    let count : (released_and_fresh b r).strays ≡ 0 = sym (ap (λ (t : Told). t.strays) here) ∙ none in
+    let count : (released_and_fresh b r).strays ≡ 0 = sym (ap (λ (t : Emitted). t.strays) here) ∙ none in
     absurd (omega (arith, some, count))
 
 back_by : (x : Bool) (h : Half) (b : ℕ) (r : Reader) → (b == 8) ≡ x → r.half ≡ h → (read_after h b r).strays ≡ 0 → is_backed (read_after h b r).reader.half ≡ (b == 8)
@@ -149,9 +149,9 @@ back_by true Nothing b r e half none =
     let strays : 1 ≡ 0 = sym (ap (λ (c : ℕ). (fresh c r).strays) same) ∙ none in
     absurd (omega (arith, strays))
 back_by false Nothing b r e half none = ap is_backed (fresh-half b r half) ∙ half_not_backed false (shows r.table b) b ∙ sym e
-back_by true (Byte a) b r e half none = ap (λ (t : Told). is_backed t.reader.half) (told-if (b == 8) (told (with_half (Backspaced a) r) [] 0) (released_and_fresh b r) e) ∙ sym e
+back_by true (Byte a) b r e half none = ap (λ (t : Emitted). is_backed t.reader.half) (emitted-if (b == 8) (emitted (with_half (Backspaced a) r) [] 0) (released_and_fresh b r) e) ∙ sym e
 back_by false (Byte a) b r e half none =
-    ap (λ (t : Told). is_backed t.reader.half) (told-not (b == 8) (told (with_half (Backspaced a) r) [] 0) (released_and_fresh b r) e)
+    ap (λ (t : Emitted). is_backed t.reader.half) (emitted-not (b == 8) (emitted (with_half (Backspaced a) r) [] 0) (released_and_fresh b r) e)
     ∙ ap is_backed (apart-half b r) ∙ half_not_backed false (shows r.table b) b ∙ sym e
 back_by x (Backspaced a) b r e half none = backed_back (strikes r.table a b) a b r refl half none
 
@@ -175,7 +175,7 @@ last-half r b (c ∷ cs) none rested =
     let parts = parts_none (read b r).strays (fed s (c ∷ cs)).strays none in
     let back = back_by (b == 8) r.half b r refl refl parts.0 in
     last-half s c cs parts.1 rested
-    ∙ ap (λ (t : Table). half_last t (is_backed s.half) (c ∷ cs)) (behind_table r.half b r) ∙ ap (λ (x : Bool). half_last r.table x (c ∷ cs)) back
+    ∙ ap (λ (t : Table). half_last t (is_backed s.half) (c ∷ cs)) (after_table r.half b r) ∙ ap (λ (x : Bool). half_last r.table x (c ∷ cs)) back
 
 -- by places
 abbrev last_of : List ℕ → ℕ
@@ -229,19 +229,19 @@ half_places t b (c ∷ cs) =
 
 -- what was read is told, and what may still be struck over is half read
 pub record Held (r s : Reader) (xs bytes : List ℕ) : Type 0 where
-  pub front : List ℕ
-  pub all : fed r xs ≡ told (with_half (half_after r.table xs) s) front 0
-  pub split : bytes ≡ front ++ half_text r.table (half_after r.table xs)
+  pub prefix : List ℕ
+  pub all : fed r xs ≡ emitted (with_half (half_after r.table xs) s) prefix 0
+  pub split : bytes ≡ prefix ++ half_text r.table (half_after r.table xs)
 
-record HeldBy (h : Half) (t : Told) (s : Reader) (bytes : List ℕ) (table : Table) : Type 0 where
-  front : List ℕ
-  all : t ≡ told (with_half h s) front 0
-  split : bytes ≡ front ++ half_text table h
+record HeldBy (h : Half) (t : Emitted) (s : Reader) (bytes : List ℕ) (table : Table) : Type 0 where
+  prefix : List ℕ
+  all : t ≡ emitted (with_half h s) prefix 0
+  split : bytes ≡ prefix ++ half_text table h
 
 goes_by : (x : Bool) (b : ℕ) (r : Reader) → goes_out r.table b ≡ x → (put_alone b r).strays ≡ 0 → goes_out r.table b ≡ true
 goes_by true b r e none = e
 goes_by false b r e none =
-    let one : (put_alone b r).strays ≡ 1 = ap (λ (t : Told). t.strays) (told-not (goes_out r.table b) (out (Once b) r) (told r [] 1) e) in
+    let one : (put_alone b r).strays ≡ 1 = ap (λ (t : Emitted). t.strays) (emitted-not (goes_out r.table b) (out (Once b) r) (emitted r [] 1) e) in
     absurd (omega (arith, one, none))
 
 goes_other : (x : Bool) (t : Table) (b : ℕ) → (b == 8) ≡ x → goes_out t b ≡ true → (b == 8) ≡ false
@@ -254,31 +254,31 @@ goes_other true t b e p =
 pub goes-no_back : (t : Table) (b : ℕ) → goes_out t b ≡ true → (b == 8) ≡ false
 goes-no_back t b p = goes_other (b == 8) t b refl p
 
-held_by : (h : Half) (t : Told) (s : Reader) (bytes : List ℕ) → t.reader.half ≡ h → let_go_by h t ≡ told s bytes 0 → rests_by h t.reader.way ≡ true → t.strays ≡ 0
+held_by : (h : Half) (t : Emitted) (s : Reader) (bytes : List ℕ) → t.reader.half ≡ h → let_go_by h t ≡ emitted s bytes 0 → rests_by h t.reader.way ≡ true → t.strays ≡ 0
     → HeldBy h t s bytes t.reader.table
 held_by Nothing t s bytes e all rested none =
-    let reader : t.reader ≡ s = ap (λ (u : Told). u.reader) all in
+    let reader : t.reader ≡ s = ap (λ (u : Emitted). u.reader) all in
     let half : s.half ≡ Nothing = sym (ap (λ (q : Reader). q.half) reader) ∙ e in
     record {
-      front = bytes;
-      all = all ∙ ap (λ (q : Reader). told q bytes 0) (sym (with-same s half));
+      prefix = bytes;
+      all = all ∙ ap (λ (q : Reader). emitted q bytes 0) (sym (with-same s half));
       split = sym (append-nil bytes);
     }
 held_by (Backspaced a) t s bytes e all rested none = absurd (let never : false ≡ true = rested in cc)
 held_by (Byte a) t s bytes e all rested none =
     let q = with_half Nothing t.reader in
-    let end : t.strays + (put_alone a q).strays ≡ 0 = ap (λ (u : Told). u.strays) all in
+    let end : t.strays + (put_alone a q).strays ≡ 0 = ap (λ (u : Emitted). u.strays) all in
     let goes = goes_by (goes_out q.table a) a q refl (omega (arith, end)) in
-    let one : put_alone a q ≡ told q (text q.table a) 0 =
-    told-if (goes_out q.table a) (out (Once a) q) (told q [] 1) goes
-    ∙ told-eq _ _ _ _ _ _ (ap (λ (w : _). record q { way = w }) (shut_to t.reader.way rested)) (ap (λ (xs : List ℕ). xs ++ text q.table a) (shut_turning t.reader.way rested)) refl in
-    let whole : behind t.bytes t.strays (told q (text q.table a) 0) ≡ told s bytes 0 = ap (λ (u : Told). behind t.bytes t.strays u) (sym one) ∙ all in
-    let reader : q ≡ s = ap (λ (u : Told). u.reader) whole in
-    let spelled : t.bytes ++ text q.table a ≡ bytes = ap (λ (u : Told). u.bytes) whole in
+    let one : put_alone a q ≡ emitted q (text q.table a) 0 =
+    emitted-if (goes_out q.table a) (out (Once a) q) (emitted q [] 1) goes
+    ∙ emitted-eq _ _ _ _ _ _ (ap (λ (w : _). record q { way = w }) (shut_to t.reader.way rested)) (ap (λ (xs : List ℕ). xs ++ text q.table a) (shut_turning t.reader.way rested)) refl in
+    let whole : preceded t.bytes t.strays (emitted q (text q.table a) 0) ≡ emitted s bytes 0 = ap (λ (u : Emitted). preceded t.bytes t.strays u) (sym one) ∙ all in
+    let reader : q ≡ s = ap (λ (u : Emitted). u.reader) whole in
+    let spelled : t.bytes ++ text q.table a ≡ bytes = ap (λ (u : Emitted). u.bytes) whole in
     let back : with_half (Byte a) s ≡ t.reader = ap (λ (u : Reader). with_half (Byte a) u) (sym reader) ∙ ap (λ (h : Half). with_half h t.reader) (sym e) in
     record {
-      front = t.bytes;
-      all = told-eq _ _ _ _ _ _ (sym back) refl none;
+      prefix = t.bytes;
+      all = emitted-eq _ _ _ _ _ _ (sym back) refl none;
       split = sym spelled ∙ ap (λ (xs : List ℕ). t.bytes ++ xs) (sym (byte-text t.reader.table a (goes-no_back t.reader.table a goes)));
     }
 
@@ -287,7 +287,7 @@ unfolding is_backed
 Makes-held r s b bs bytes none m =
     let xs = b ∷ bs in
     let t = fed r xs in
-    let end : (let_go t).strays ≡ 0 = ap (λ (u : Told). u.strays) m.all in
+    let end : (let_go t).strays ≡ 0 = ap (λ (u : Emitted). u.strays) m.all in
     let most = more_strays t.reader.half t in
     let strays : t.strays ≡ 0 = omega (arith, end, most) in
     let half : t.reader.half ≡ half_after r.table xs =
@@ -295,9 +295,9 @@ Makes-held r s b bs bytes none m =
     let h = held_by t.reader.half t s bytes refl m.all m.rested strays in
     let table = fed-table r xs in
     record {
-      front = h.front;
-      all = h.all ∙ ap (λ (x : Half). told (with_half x s) h.front 0) half;
-      split = h.split ∙ ap (λ (x : Half). h.front ++ half_text t.reader.table x) half ∙ ap (λ (x : Table). h.front ++ half_text x (half_after r.table xs)) table;
+      prefix = h.prefix;
+      all = h.all ∙ ap (λ (x : Half). emitted (with_half x s) h.prefix 0) half;
+      split = h.split ∙ ap (λ (x : Half). h.prefix ++ half_text t.reader.table x) half ∙ ap (λ (x : Table). h.prefix ++ half_text x (half_after r.table xs)) table;
     }
 
 not_true : (x : Bool) → not x ≡ true → x ≡ false
@@ -306,7 +306,7 @@ not_true false p = refl
 
 -- ---- what stays
 
-go_table : (h : Half) (t : Told) → (let_go_by h t).reader.table ≡ t.reader.table
+go_table : (h : Half) (t : Emitted) → (let_go_by h t).reader.table ≡ t.reader.table
 go_table Nothing t = refl
 go_table (Byte a) t = alone_table a (with_half Nothing t.reader)
 go_table (Backspaced a) t = refl
@@ -314,9 +314,9 @@ go_table (Backspaced a) t = refl
 pub Makes-table : (r s : Reader) (xs bytes : List ℕ) → Makes r s xs bytes → s.table ≡ r.table
 Makes-table r s xs bytes m =
     let t = fed r xs in
-    sym (ap (λ (u : Told). u.reader.table) m.all) ∙ go_table t.reader.half t ∙ fed-table r xs
+    sym (ap (λ (u : Emitted). u.reader.table) m.all) ∙ go_table t.reader.half t ∙ fed-table r xs
 
-go_half : (h : Half) (t : Told) → t.reader.half ≡ h → rests_by h t.reader.way ≡ true → (let_go_by h t).reader.half ≡ Nothing
+go_half : (h : Half) (t : Emitted) → t.reader.half ≡ h → rests_by h t.reader.way ≡ true → (let_go_by h t).reader.half ≡ Nothing
 go_half Nothing t e rested = e
 go_half (Byte a) t e rested = put_alone-half a (with_half Nothing t.reader)
 go_half (Backspaced a) t e rested = absurd (let never : false ≡ true = rested in cc)
@@ -324,37 +324,37 @@ go_half (Backspaced a) t e rested = absurd (let never : false ≡ true = rested 
 pub Makes-half : (r s : Reader) (xs bytes : List ℕ) → Makes r s xs bytes → s.half ≡ Nothing
 Makes-half r s xs bytes m =
     let t = fed r xs in
-    sym (ap (λ (u : Told). u.reader.half) m.all) ∙ go_half t.reader.half t refl m.rested
+    sym (ap (λ (u : Emitted). u.reader.half) m.all) ∙ go_half t.reader.half t refl m.rested
 
 -- ---- what is half read before
 
-begins-fed : (h : Half) (b : ℕ) (bs : List ℕ) (r : Reader) → r.half ≡ h → begins_by r.table h b ≡ true → fed r (b ∷ bs) ≡ then_told (released h r) (λ q. fed q (b ∷ bs))
-begins-fed Nothing b bs r e begins = sym (behind-none (fed r (b ∷ bs)))
+begins-fed : (h : Half) (b : ℕ) (bs : List ℕ) (r : Reader) → r.half ≡ h → begins_by r.table h b ≡ true → fed r (b ∷ bs) ≡ then_emitted (released h r) (λ q. fed q (b ∷ bs))
+begins-fed Nothing b bs r e begins = sym (preceded-none (fed r (b ∷ bs)))
 begins-fed (Backspaced a) b bs r e begins = absurd (let never : false ≡ true = begins in cc)
 begins-fed (Byte a) b bs r e begins =
-    let A : Told = put_alone a (with_half Nothing r) in
+    let A : Emitted = put_alone a (with_half Nothing r) in
     let none : A.reader.half ≡ Nothing = put_alone-half a (with_half Nothing r) in
-    let first : read b r ≡ then_told A (λ s. fresh b s) =
-    ap (λ (h : Half). read_after h b r) e ∙ told-not (b == 8) (told (with_half (Backspaced a) r) [] 0) (released_and_fresh b r) (not_true (b == 8) (and_first (not (b == 8)) (goes_out r.table a) begins))
-    ∙ ap (λ (h : Half). then_told (released h r) (λ s. fresh b s)) e in
-    ap (λ (v : Told). then_told v (λ u. fed u bs)) first ∙ then-then A (λ s. fresh b s) (λ u. fed u bs)
-    ∙ ap (λ (v : Told). behind A.bytes A.strays (then_told v (λ u. fed u bs))) (sym (read-fresh b A.reader none))
+    let first : read b r ≡ then_emitted A (λ s. fresh b s) =
+    ap (λ (h : Half). read_after h b r) e ∙ emitted-not (b == 8) (emitted (with_half (Backspaced a) r) [] 0) (released_and_fresh b r) (not_true (b == 8) (and_first (not (b == 8)) (goes_out r.table a) begins))
+    ∙ ap (λ (h : Half). then_emitted (released h r) (λ s. fresh b s)) e in
+    ap (λ (v : Emitted). then_emitted v (λ u. fed u bs)) first ∙ then-then A (λ s. fresh b s) (λ u. fed u bs)
+    ∙ ap (λ (v : Emitted). preceded A.bytes A.strays (then_emitted v (λ u. fed u bs))) (sym (read-fresh b A.reader none))
 
 pub begins-released : (h : Half) (b : ℕ) (r : Reader) → r.half ≡ h → begins_by r.table h b ≡ true → ((released h r).strays ≡ 0) × ((released h r).reader.half ≡ Nothing)
 begins-released Nothing b r e begins = (refl, e)
 begins-released (Backspaced a) b r e begins = absurd (let never : false ≡ true = begins in cc)
 begins-released (Byte a) b r e begins =
     let goes = and_second (not (b == 8)) (goes_out r.table a) begins in
-    (ap (λ (t : Told). t.strays) (told-if (goes_out r.table a) (out (Once a) (with_half Nothing r)) (told (with_half Nothing r) [] 1) goes), put_alone-half a (with_half Nothing r))
+    (ap (λ (t : Emitted). t.strays) (emitted-if (goes_out r.table a) (out (Once a) (with_half Nothing r)) (emitted (with_half Nothing r) [] 1) goes), put_alone-half a (with_half Nothing r))
 
 pub fed-begins : (b : ℕ) (bs : List ℕ) (r s : Reader) (bytes : List ℕ) → begins_by r.table r.half b ≡ true → s ≡ (released r.half r).reader → bytes ≡ (released r.half r).bytes
-    → fed r (b ∷ bs) ≡ behind bytes 0 (fed s (b ∷ bs))
+    → fed r (b ∷ bs) ≡ preceded bytes 0 (fed s (b ∷ bs))
 fed-begins b bs r s bytes begins is same =
     let none = (begins-released r.half b r refl begins).0 in
     begins-fed r.half b bs r refl begins
-    ∙ ap (λ (n : ℕ). behind (released r.half r).bytes n (fed (released r.half r).reader (b ∷ bs))) none
-    ∙ ap (λ (xs : List ℕ). behind xs 0 (fed (released r.half r).reader (b ∷ bs))) (sym same)
-    ∙ ap (λ (q : Reader). behind bytes 0 (fed q (b ∷ bs))) (sym is)
+    ∙ ap (λ (n : ℕ). preceded (released r.half r).bytes n (fed (released r.half r).reader (b ∷ bs))) none
+    ∙ ap (λ (xs : List ℕ). preceded xs 0 (fed (released r.half r).reader (b ∷ bs))) (sym same)
+    ∙ ap (λ (q : Reader). preceded bytes 0 (fed q (b ∷ bs))) (sym is)
 
 -- ---- what is kept of the table serves on
 
@@ -364,10 +364,10 @@ serves-as p r s e serves =
     subst P (sym e) serves
 
 pub read-table : (b : ℕ) (r s : Reader) → s ≡ (read b r).reader → s.table ≡ r.table
-read-table b r s e = ap (λ (q : Reader). q.table) e ∙ behind_table r.half b r
+read-table b r s e = ap (λ (q : Reader). q.table) e ∙ after_table r.half b r
 
 pub ended-table : (r s : Reader) → s ≡ (ended r).reader → s.table ≡ r.table
 ended-table r s e = ap (λ (q : Reader). q.table) e ∙ released-table r.half r
 
 pub Reads-table : (r s : Reader) (bs : List ℕ) (n : ℕ) (room : List ℕ) (end : ℕ) → Reads r s bs n room end → s.table ≡ r.table
-Reads-table r s bs n room end reads = sym (ap (λ (t : Told). t.reader.table) reads.all) ∙ fed-table r (take n bs)
+Reads-table r s bs n room end reads = sym (ap (λ (t : Emitted). t.reader.table) reads.all) ∙ fed-table r (take n bs)

@@ -9,7 +9,7 @@ use Rattle.utf8_converter.specs.declared.reader.Half.TheVariants.{Nothing, Byte,
 use Rattle.utf8_converter.specs.declared.reader.Way.{Way}
 use Rattle.utf8_converter.specs.declared.reader.Reader.{Reader}
 use Rattle.utf8_converter.specs.Cells.{Cell, Once, Over, alone, cells, converted, drawn, goes_out, printed, shows, size, sizes, strays_of, strikes, turning, way_after}
-use Rattle.utf8_converter.specs.Reading.{Told, behind, ended, fed, first_reader, fresh, out, put_alone, read, read_after, released, released_and_fresh, shut, then_told, told, with_half}
+use Rattle.utf8_converter.specs.Reading.{Emitted, preceded, ended, fed, first_reader, fresh, out, put_alone, read, read_after, released, released_and_fresh, shut, then_emitted, emitted, with_half}
 
 -- ---- cells behind one another
 
@@ -18,25 +18,25 @@ abbrev pub drawn_all : Table → Way → List Cell → List ℕ
 drawn_all table way [] = []
 drawn_all table way (c ∷ cs) = drawn table way c ++ drawn_all table (way_after way c) cs
 
-abbrev pub ways_behind : Way → List Cell → Way
-ways_behind way [] = way
-ways_behind way (c ∷ cs) = ways_behind (way_after way c) cs
+abbrev pub ways_after : Way → List Cell → Way
+ways_after way [] = way
+ways_after way (c ∷ cs) = ways_after (way_after way c) cs
 
-drawn-append : (t : Table) (w : Way) (cs ds : List Cell) → drawn_all t w (cs ++ ds) ≡ drawn_all t w cs ++ drawn_all t (ways_behind w cs) ds
+drawn-append : (t : Table) (w : Way) (cs ds : List Cell) → drawn_all t w (cs ++ ds) ≡ drawn_all t w cs ++ drawn_all t (ways_after w cs) ds
 drawn-append t w [] ds = refl
 drawn-append t w (c ∷ cs) ds =
     ap (λ (xs : List ℕ). drawn t w c ++ xs) (drawn-append t (way_after w c) cs ds)
-    ∙ sym (append_assoc (drawn t w c) (drawn_all t (way_after w c) cs) (drawn_all t (ways_behind (way_after w c) cs) ds))
+    ∙ sym (append_assoc (drawn t w c) (drawn_all t (way_after w c) cs) (drawn_all t (ways_after (way_after w c) cs) ds))
 
-ways-append : (w : Way) (cs ds : List Cell) → ways_behind w (cs ++ ds) ≡ ways_behind (ways_behind w cs) ds
+ways-append : (w : Way) (cs ds : List Cell) → ways_after w (cs ++ ds) ≡ ways_after (ways_after w cs) ds
 ways-append w [] ds = refl
 ways-append w (c ∷ cs) ds = ways-append (way_after w c) cs ds
 
-printed-append : (t : Table) (w : Way) (cs ds : List Cell) → printed t w (cs ++ ds) ≡ drawn_all t w cs ++ printed t (ways_behind w cs) ds
+printed-append : (t : Table) (w : Way) (cs ds : List Cell) → printed t w (cs ++ ds) ≡ drawn_all t w cs ++ printed t (ways_after w cs) ds
 printed-append t w [] ds = refl
 printed-append t w (c ∷ cs) ds =
     ap (λ (xs : List ℕ). drawn t w c ++ xs) (printed-append t (way_after w c) cs ds)
-    ∙ sym (append_assoc (drawn t w c) (drawn_all t (way_after w c) cs) (printed t (ways_behind (way_after w c) cs) ds))
+    ∙ sym (append_assoc (drawn t w c) (drawn_all t (way_after w c) cs) (printed t (ways_after (way_after w c) cs) ds))
 
 more : (n a b : ℕ) → n + (a + b) ≡ n + a + b
 more n a b = omega arith
@@ -47,18 +47,18 @@ sizes-append (c ∷ cs) ds = ap (λ (n : ℕ). size c + n) (sizes-append cs ds) 
 
 -- ---- what was told is that of cells
 
-pub record Drawn (r : Reader) (cs : List Cell) (t : Told) : Type 0 where
+pub record Drawn (r : Reader) (cs : List Cell) (t : Emitted) : Type 0 where
   pub bytes : t.bytes ≡ drawn_all r.table r.way cs
-  pub way : t.reader.way ≡ ways_behind r.way cs
+  pub way : t.reader.way ≡ ways_after r.way cs
   pub table : t.reader.table ≡ r.table
 
-drawn-nothing : (r s : Reader) (n : ℕ) → s.way ≡ r.way → s.table ≡ r.table → Drawn r [] (told s [] n)
+drawn-nothing : (r s : Reader) (n : ℕ) → s.way ≡ r.way → s.table ≡ r.table → Drawn r [] (emitted s [] n)
 drawn-nothing r s n w t = record { bytes = refl; way = w; table = t }
 
 drawn-out : (r : Reader) (c : Cell) → Drawn r (c ∷ []) (out c r)
 drawn-out r c = record { bytes = sym (append-nil (drawn r.table r.way c)); way = refl; table = refl }
 
-drawn-then : (r : Reader) (cs ds : List Cell) (t : Told) (next : Reader → Told) → Drawn r cs t → Drawn t.reader ds (next t.reader) → Drawn r (cs ++ ds) (then_told t next)
+drawn-then : (r : Reader) (cs ds : List Cell) (t : Emitted) (next : Reader → Emitted) → Drawn r cs t → Drawn t.reader ds (next t.reader) → Drawn r (cs ++ ds) (then_emitted t next)
 drawn-then r cs ds t next p q =
     let P : Table → Type 0 = λ x. (next t.reader).bytes ≡ drawn_all x t.reader.way ds in
     let Q : Way → Type 0 = λ x. (next t.reader).bytes ≡ drawn_all r.table x ds in
@@ -67,18 +67,18 @@ drawn-then r cs ds t next p q =
       bytes =
           ap (λ (xs : List ℕ). xs ++ (next t.reader).bytes) p.bytes ∙ ap (λ (xs : List ℕ). drawn_all r.table r.way cs ++ xs) bytes
           ∙ sym (drawn-append r.table r.way cs ds);
-      way = q.way ∙ ap (λ (x : Way). ways_behind x ds) p.way ∙ sym (ways-append r.way cs ds);
+      way = q.way ∙ ap (λ (x : Way). ways_after x ds) p.way ∙ sym (ways-append r.way cs ds);
       table = q.table ∙ p.table;
     }
 
-drawn-behind : (r : Reader) (cs : List Cell) (n : ℕ) (t : Told) → Drawn r cs t → Drawn r cs (behind [] n t)
-drawn-behind r cs n t p = record { bytes = p.bytes; way = p.way; table = p.table }
+drawn-preceded : (r : Reader) (cs : List Cell) (n : ℕ) (t : Emitted) → Drawn r cs t → Drawn r cs (preceded [] n t)
+drawn-preceded r cs n t p = record { bytes = p.bytes; way = p.way; table = p.table }
 
-drawn-half : (r s : Reader) (cs : List Cell) (t : Told) → s.way ≡ r.way → s.table ≡ r.table → Drawn s cs t → Drawn r cs t
+drawn-half : (r s : Reader) (cs : List Cell) (t : Emitted) → s.way ≡ r.way → s.table ≡ r.table → Drawn s cs t → Drawn r cs t
 drawn-half r s cs t w u p =
     let P : Table → Type 0 = λ x. t.bytes ≡ drawn_all x s.way cs in
     let Q : Way → Type 0 = λ x. t.bytes ≡ drawn_all r.table x cs in
-    record { bytes = subst Q w (subst P u p.bytes); way = p.way ∙ ap (λ (x : Way). ways_behind x cs) w; table = p.table ∙ u }
+    record { bytes = subst Q w (subst P u p.bytes); way = p.way ∙ ap (λ (x : Way). ways_after x cs) w; table = p.table ∙ u }
 
 -- ---- one byte
 
@@ -133,23 +133,23 @@ pub apart-hidden : (t : Table) (a : ℕ) (rest : List ℕ) → shows t a ≡ fal
 apart-hidden t a rest hidden = apart-by t a rest (λ b c. both_false (b == 8) (strikes t a c) (hidden-strikes t a c hidden))
 
 -- what is told of a byte, and what it is in what came
-record Kept (r : Reader) (h : Half) (b : ℕ) (t : Told) : Type 0 where
+record Kept (r : Reader) (h : Half) (b : ℕ) (t : Emitted) : Type 0 where
   marks : List Cell
   all : Drawn r marks t
   moves : (rest : List ℕ) → cells r.table (half_read h ++ b ∷ rest) ≡ marks ++ cells r.table (half_read t.reader.half ++ rest)
   count : length (half_read h) + 1 ≡ sizes marks + t.strays + length (half_read t.reader.half)
 
-kept-if : (r : Reader) (h : Half) (b : ℕ) (x : Bool) (t u : Told) → (x ≡ true → Kept r h b t) → (x ≡ false → Kept r h b u) → Kept r h b (if x then t else u)
+kept-if : (r : Reader) (h : Half) (b : ℕ) (x : Bool) (t u : Emitted) → (x ≡ true → Kept r h b t) → (x ≡ false → Kept r h b u) → Kept r h b (if x then t else u)
 kept-if r h b true t u p q = p refl
 kept-if r h b false t u p q = q refl
 
 -- a byte by itself
-record Alone (r : Reader) (b : ℕ) (cs : List Cell) (t : Told) : Type 0 where
+record Alone (r : Reader) (b : ℕ) (cs : List Cell) (t : Emitted) : Type 0 where
   all : Drawn r cs t
   count : 1 ≡ sizes cs + t.strays
   half : t.reader.half ≡ r.half
 
-alone-by : (x : Bool) (b : ℕ) (r : Reader) → Alone r b (if x then Once b ∷ [] else []) (if x then out (Once b) r else told r [] 1)
+alone-by : (x : Bool) (b : ℕ) (r : Reader) → Alone r b (if x then Once b ∷ [] else []) (if x then out (Once b) r else emitted r [] 1)
 alone-by true b r = record { all = drawn-out r (Once b); count = omega arith; half = refl }
 alone-by false b r = record { all = drawn-nothing r r 1 refl refl; count = omega arith; half = refl }
 
@@ -164,7 +164,7 @@ nothing_half h e = ap (λ (x : Half). length (half_read x)) e
 
 kept-fresh : (b : ℕ) (r : Reader) → r.half ≡ Nothing → Kept r Nothing b (fresh b r)
 kept-fresh b r e =
-    kept-if r Nothing b (shows r.table b) (told (with_half (Byte b) r) [] 0) (put_alone b r)
+    kept-if r Nothing b (shows r.table b) (emitted (with_half (Byte b) r) [] 0) (put_alone b r)
     (λ is. record {
       marks = [];
       all = drawn-nothing r (with_half (Byte b) r) 0 refl refl;
@@ -184,7 +184,7 @@ kept-fresh b r e =
 -- what is half read is apart from what comes
 kept-apart : (h : Half) (b : ℕ) (r : Reader) → (marks : List Cell) → Drawn r marks (released h r) → (released h r).reader.half ≡ Nothing
     → length (half_read h) ≡ sizes marks + (released h r).strays
-    → ((rest : List ℕ) → cells r.table (half_read h ++ b ∷ rest) ≡ marks ++ cells r.table (b ∷ rest)) → Kept r h b (then_told (released h r) (λ s. fresh b s))
+    → ((rest : List ℕ) → cells r.table (half_read h ++ b ∷ rest) ≡ marks ++ cells r.table (b ∷ rest)) → Kept r h b (then_emitted (released h r) (λ s. fresh b s))
 kept-apart h b r marks all half count apart =
     let t = released h r in
     let next = kept-fresh b t.reader half in
@@ -199,7 +199,7 @@ kept-apart h b r marks all half count apart =
       count = omega (arith, both, later, count);
     }
 
-released-byte : (a b : ℕ) (r : Reader) → (b == 8) ≡ false → Kept r (Byte a) b (then_told (released (Byte a) r) (λ s. fresh b s))
+released-byte : (a b : ℕ) (r : Reader) → (b == 8) ≡ false → Kept r (Byte a) b (then_emitted (released (Byte a) r) (λ s. fresh b s))
 released-byte a b r isnt =
     let s = with_half Nothing r in
     let one = is-alone a s in
@@ -212,26 +212,26 @@ apart-back t a b rest isnt =
     cells-not ((8 == 8) && strikes t a b) (Over a b ∷ cells t rest) (alone t a ++ cells t (8 ∷ b ∷ rest)) isnt
     ∙ ap (λ (cs : List Cell). alone t a ++ cs) (apart-hidden t 8 (b ∷ rest) refl)
 
-released-backspaced : (a b : ℕ) (r : Reader) → strikes r.table a b ≡ false → Kept r (Backspaced a) b (then_told (released (Backspaced a) r) (λ s. fresh b s))
+released-backspaced : (a b : ℕ) (r : Reader) → strikes r.table a b ≡ false → Kept r (Backspaced a) b (then_emitted (released (Backspaced a) r) (λ s. fresh b s))
 released-backspaced a b r isnt =
     let s = with_half Nothing r in
     let one = is-alone a s in
     let count = one.count in
     kept-apart (Backspaced a) b r (alone r.table a)
-    (drawn-behind r (alone r.table a) 1 (put_alone a s) (drawn-half r s (alone r.table a) (put_alone a s) refl refl one.all)) one.half (omega (arith, count)) (λ rest. apart-back r.table a b rest isnt)
+    (drawn-preceded r (alone r.table a) 1 (put_alone a s) (drawn-half r s (alone r.table a) (put_alone a s) refl refl one.all)) one.half (omega (arith, count)) (λ rest. apart-back r.table a b rest isnt)
 
 is_backspace : (b : ℕ) → (b == 8) ≡ true → b ≡ 8
 is_backspace b p = grind (arith, nat_tests)
 
-half_as : (h : Half) (b : ℕ) (r : Reader) → r.half ≡ h → Kept r h b (then_told (released h r) (λ s. fresh b s)) → Kept r h b (released_and_fresh b r)
+half_as : (h : Half) (b : ℕ) (r : Reader) → r.half ≡ h → Kept r h b (then_emitted (released h r) (λ s. fresh b s)) → Kept r h b (released_and_fresh b r)
 half_as h b r e k =
-    let P : Half → Type 0 = λ x. Kept r h b (then_told (released x r) (λ s. fresh b s)) in
+    let P : Half → Type 0 = λ x. Kept r h b (then_emitted (released x r) (λ s. fresh b s)) in
     subst P (sym e) k
 
 kept-read : (h : Half) (b : ℕ) (r : Reader) → r.half ≡ h → Kept r h b (read_after h b r)
 kept-read Nothing b r e = kept-fresh b r e
 kept-read (Byte a) b r e =
-    kept-if r (Byte a) b (b == 8) (told (with_half (Backspaced a) r) [] 0) (released_and_fresh b r)
+    kept-if r (Byte a) b (b == 8) (emitted (with_half (Backspaced a) r) [] 0) (released_and_fresh b r)
     (λ is. record {
       marks = [];
       all = drawn-nothing r (with_half (Backspaced a) r) 0 refl refl;
@@ -251,7 +251,7 @@ kept-read (Backspaced a) b r e =
 
 -- ---- many bytes
 
-pub record KeptAll (r : Reader) (bs : List ℕ) (t : Told) : Type 0 where
+pub record KeptAll (r : Reader) (bs : List ℕ) (t : Emitted) : Type 0 where
   pub marks : List Cell
   pub all : Drawn r marks t
   pub moves : cells r.table (half_read r.half ++ bs) ≡ marks ++ cells r.table (half_read t.reader.half)
@@ -283,12 +283,12 @@ kept-all (b ∷ bs) r =
     }
 
 -- the end comes
-record Ends (r : Reader) (h : Half) (t : Told) : Type 0 where
+record Ends (r : Reader) (h : Half) (t : Emitted) : Type 0 where
   bytes : t.bytes ≡ printed r.table r.way (cells r.table (half_read h))
   count : length (half_read h) ≡ sizes (cells r.table (half_read h)) + t.strays
 
-ends-by : (r : Reader) (h : Half) (cs : List Cell) (t : Told) → Drawn r cs t → cells r.table (half_read h) ≡ cs → length (half_read h) ≡ sizes cs + t.strays
-    → Ends r h (then_told t (λ s. shut s))
+ends-by : (r : Reader) (h : Half) (cs : List Cell) (t : Emitted) → Drawn r cs t → cells r.table (half_read h) ≡ cs → length (half_read h) ≡ sizes cs + t.strays
+    → Ends r h (then_emitted t (λ s. shut s))
 ends-by r h cs t all is count =
     let both = printed-append r.table r.way cs [] in
     let long : sizes (cells r.table (half_read h)) ≡ sizes cs = ap sizes is in
@@ -299,8 +299,8 @@ ends-by r h cs t all is count =
       count = omega (arith, count, long);
     }
 
-ends : (h : Half) (r : Reader) → Ends r h (then_told (released h r) (λ s. shut s))
-ends Nothing r = ends-by r Nothing [] (told r [] 0) (drawn-nothing r r 0 refl refl) refl (omega arith)
+ends : (h : Half) (r : Reader) → Ends r h (then_emitted (released h r) (λ s. shut s))
+ends Nothing r = ends-by r Nothing [] (emitted r [] 0) (drawn-nothing r r 0 refl refl) refl (omega arith)
 ends (Byte a) r =
     let s = with_half Nothing r in
     let one = is-alone a s in
@@ -310,8 +310,8 @@ ends (Backspaced a) r =
     let s = with_half Nothing r in
     let one = is-alone a s in
     let count = one.count in
-    ends-by r (Backspaced a) (alone r.table a) (behind [] 1 (put_alone a s))
-    (drawn-behind r (alone r.table a) 1 (put_alone a s) (drawn-half r s (alone r.table a) (put_alone a s) refl refl one.all)) (append-nil (alone r.table a)) (omega (arith, count))
+    ends-by r (Backspaced a) (alone r.table a) (preceded [] 1 (put_alone a s))
+    (drawn-preceded r (alone r.table a) 1 (put_alone a s) (drawn-half r s (alone r.table a) (put_alone a s) refl refl one.all)) (append-nil (alone r.table a)) (omega (arith, count))
 
 -- ---- all bytes of an input
 
@@ -327,7 +327,7 @@ converted-fed d e bs =
     let Q : Way → Type 0 = λ x. (ended t.reader).bytes ≡ printed d x left in
     let last = subst Q all.all.way (subst P all.all.table end.bytes) in
     ap (λ (cs : List Cell). printed d first.way cs) all.moves ∙ printed-append d first.way all.marks left
-    ∙ ap (λ (xs : List ℕ). xs ++ printed d (ways_behind first.way all.marks) left) (sym all.all.bytes)
+    ∙ ap (λ (xs : List ℕ). xs ++ printed d (ways_after first.way all.marks) left) (sym all.all.bytes)
     ∙ ap (λ (xs : List ℕ). t.bytes ++ xs) (sym last)
 
 less : (n m k : ℕ) → n ≡ m + k → n - m ≡ k

@@ -17,42 +17,42 @@ use Rattle.utf8_converter.specs.declared.reader.Way.{Way}
 use Rattle.utf8_converter.specs.declared.reader.Way.TheVariants.{Backspaces, Escapes}
 use Rattle.utf8_converter.specs.declared.reader.Reader.{Reader}
 use Rattle.utf8_converter.specs.Cells.{Cell, Once, Over, drawn, goes_out, if_spelled, is_shown, look_of, shows, size, strikes, text, turning, way_after, way_to}
-use Rattle.utf8_converter.specs.Reading.{Told, behind, fed, fresh, out, put_alone, read, read_after, released, released_and_fresh, then_told, told, turned, with_half}
+use Rattle.utf8_converter.specs.Reading.{Emitted, preceded, fed, fresh, out, put_alone, read, read_after, released, released_and_fresh, then_emitted, emitted, turned, with_half}
 use Rattle.utf8_converter.specs.Spelling.{IsFresh, Makes, is_shut, let_go, let_go_by, owed, rests, rests_by}
-use Rattle.utf8_converter.proofs.Reading.{fed-append, told-eq}
+use Rattle.utf8_converter.proofs.Reading.{fed-append, emitted-eq}
 
 -- ---- what is told
 
-pub told-if : (x : Bool) (t u : Told) → x ≡ true → (if x then t else u) ≡ t
-told-if true t u p = refl
-told-if false t u p = absurd (let never : false ≡ true = p in cc)
+pub emitted-if : (x : Bool) (t u : Emitted) → x ≡ true → (if x then t else u) ≡ t
+emitted-if true t u p = refl
+emitted-if false t u p = absurd (let never : false ≡ true = p in cc)
 
-pub told-not : (x : Bool) (t u : Told) → x ≡ false → (if x then t else u) ≡ u
-told-not true t u p = absurd (let never : true ≡ false = p in cc)
-told-not false t u p = refl
+pub emitted-not : (x : Bool) (t u : Emitted) → x ≡ false → (if x then t else u) ≡ u
+emitted-not true t u p = absurd (let never : true ≡ false = p in cc)
+emitted-not false t u p = refl
 
 add_assoc : (a b c : ℕ) → a + b + c ≡ a + (b + c)
 add_assoc a b c = omega arith
 
-behind-twice : (xs ys : List ℕ) (m n : ℕ) (t : Told) → behind (xs ++ ys) (m + n) t ≡ behind xs m (behind ys n t)
-behind-twice xs ys m n t = told-eq _ _ _ _ _ _ refl (append_assoc xs ys t.bytes) (add_assoc m n t.strays)
+preceded-twice : (xs ys : List ℕ) (m n : ℕ) (t : Emitted) → preceded (xs ++ ys) (m + n) t ≡ preceded xs m (preceded ys n t)
+preceded-twice xs ys m n t = emitted-eq _ _ _ _ _ _ refl (append_assoc xs ys t.bytes) (add_assoc m n t.strays)
 
 -- one after another
-pub then-then : (t : Told) (f g : Reader → Told) → then_told (then_told t f) g ≡ then_told t (λ s. then_told (f s) g)
-then-then t f g = behind-twice t.bytes (f t.reader).bytes t.strays (f t.reader).strays (g (f t.reader).reader)
+pub then-then : (t : Emitted) (f g : Reader → Emitted) → then_emitted (then_emitted t f) g ≡ then_emitted t (λ s. then_emitted (f s) g)
+then-then t f g = preceded-twice t.bytes (f t.reader).bytes t.strays (f t.reader).strays (g (f t.reader).reader)
 
-let_go-by : (h : Half) (xs : List ℕ) (n : ℕ) (t : Told) → let_go_by h (behind xs n t) ≡ behind xs n (let_go_by h t)
+let_go-by : (h : Half) (xs : List ℕ) (n : ℕ) (t : Emitted) → let_go_by h (preceded xs n t) ≡ preceded xs n (let_go_by h t)
 let_go-by Nothing xs n t = refl
-let_go-by (Byte b) xs n t = behind-twice xs t.bytes n t.strays (put_alone b (with_half Nothing t.reader))
+let_go-by (Byte b) xs n t = preceded-twice xs t.bytes n t.strays (put_alone b (with_half Nothing t.reader))
 let_go-by (Backspaced b) xs n t = refl
 
-let_go-behind : (xs : List ℕ) (n : ℕ) (t : Told) → let_go (behind xs n t) ≡ behind xs n (let_go t)
-let_go-behind xs n t = let_go-by t.reader.half xs n t
+let_go-preceded : (xs : List ℕ) (n : ℕ) (t : Emitted) → let_go (preceded xs n t) ≡ preceded xs n (let_go t)
+let_go-preceded xs n t = let_go-by t.reader.half xs n t
 
-let_go-same : (t : Told) → t.reader.half ≡ Nothing → let_go t ≡ t
+let_go-same : (t : Emitted) → t.reader.half ≡ Nothing → let_go t ≡ t
 let_go-same t e = ap (λ (h : Half). let_go_by h t) e
 
-alone_half : (x : Bool) (b : ℕ) (r : Reader) → (if x then out (Once b) r else told r [] 1).reader.half ≡ r.half
+alone_half : (x : Bool) (b : ℕ) (r : Reader) → (if x then out (Once b) r else emitted r [] 1).reader.half ≡ r.half
 alone_half true b r = refl
 alone_half false b r = refl
 
@@ -68,31 +68,31 @@ with-same r e = ap (λ (h : Half). with_half h r) (sym e)
 -- ---- cells behind cells
 
 -- a byte that is half read is no cell with what comes, unless that is a backspace
-release_by : (h : Half) (y : ℕ) (ys : List ℕ) (t : Told) → t.reader.half ≡ h → rests_by h t.reader.way ≡ true → (y == 8) ≡ false
-    → then_told t (λ q. fed q (y ∷ ys)) ≡ then_told (let_go_by h t) (λ q. fed q (y ∷ ys))
+release_by : (h : Half) (y : ℕ) (ys : List ℕ) (t : Emitted) → t.reader.half ≡ h → rests_by h t.reader.way ≡ true → (y == 8) ≡ false
+    → then_emitted t (λ q. fed q (y ∷ ys)) ≡ then_emitted (let_go_by h t) (λ q. fed q (y ∷ ys))
 release_by Nothing y ys t e rested isnt = refl
 release_by (Backspaced a) y ys t e rested isnt = absurd (let bad : false ≡ true = rested in cc)
 release_by (Byte a) y ys t e rested isnt =
     let q = t.reader in
-    let A : Told = put_alone a (with_half Nothing q) in
+    let A : Emitted = put_alone a (with_half Nothing q) in
     let none : A.reader.half ≡ Nothing = put_alone-half a (with_half Nothing q) in
-    let first : read y q ≡ then_told A (λ s. fresh y s) =
-    ap (λ (h : Half). read_after h y q) e ∙ told-not (y == 8) (told (with_half (Backspaced a) q) [] 0) (released_and_fresh y q) isnt
-    ∙ ap (λ (h : Half). then_told (released h q) (λ s. fresh y s)) e in
-    let rest : fed q (y ∷ ys) ≡ then_told A (λ s. then_told (fresh y s) (λ u. fed u ys)) =
-    ap (λ (v : Told). then_told v (λ u. fed u ys)) first ∙ then-then A (λ s. fresh y s) (λ u. fed u ys) in
-    let back : then_told (fresh y A.reader) (λ u. fed u ys) ≡ fed A.reader (y ∷ ys) = ap (λ (v : Told). then_told v (λ u. fed u ys)) (sym (read-fresh y A.reader none)) in
-    ap (λ (v : Told). behind t.bytes t.strays v) (rest ∙ ap (λ (v : Told). behind A.bytes A.strays v) back)
-    ∙ sym (behind-twice t.bytes A.bytes t.strays A.strays (fed A.reader (y ∷ ys)))
+    let first : read y q ≡ then_emitted A (λ s. fresh y s) =
+    ap (λ (h : Half). read_after h y q) e ∙ emitted-not (y == 8) (emitted (with_half (Backspaced a) q) [] 0) (released_and_fresh y q) isnt
+    ∙ ap (λ (h : Half). then_emitted (released h q) (λ s. fresh y s)) e in
+    let rest : fed q (y ∷ ys) ≡ then_emitted A (λ s. then_emitted (fresh y s) (λ u. fed u ys)) =
+    ap (λ (v : Emitted). then_emitted v (λ u. fed u ys)) first ∙ then-then A (λ s. fresh y s) (λ u. fed u ys) in
+    let back : then_emitted (fresh y A.reader) (λ u. fed u ys) ≡ fed A.reader (y ∷ ys) = ap (λ (v : Emitted). then_emitted v (λ u. fed u ys)) (sym (read-fresh y A.reader none)) in
+    ap (λ (v : Emitted). preceded t.bytes t.strays v) (rest ∙ ap (λ (v : Emitted). preceded A.bytes A.strays v) back)
+    ∙ sym (preceded-twice t.bytes A.bytes t.strays A.strays (fed A.reader (y ∷ ys)))
 
 -- bytes behind whole cells
-fed-behind : (r s : Reader) (xs : List ℕ) (o : List ℕ) (y : ℕ) (ys : List ℕ) → Makes r s xs o → (y == 8) ≡ false → fed r (xs ++ y ∷ ys) ≡ behind o 0 (fed s (y ∷ ys))
-fed-behind r s xs o y ys m isnt =
+fed-preceded : (r s : Reader) (xs : List ℕ) (o : List ℕ) (y : ℕ) (ys : List ℕ) → Makes r s xs o → (y == 8) ≡ false → fed r (xs ++ y ∷ ys) ≡ preceded o 0 (fed s (y ∷ ys))
+fed-preceded r s xs o y ys m isnt =
     let t = fed r xs in
-    fed-append r xs (y ∷ ys) ∙ release_by t.reader.half y ys t refl m.rested isnt ∙ ap (λ (v : Told). then_told v (λ q. fed q (y ∷ ys))) m.all
+    fed-append r xs (y ∷ ys) ∙ release_by t.reader.half y ys t refl m.rested isnt ∙ ap (λ (v : Emitted). then_emitted v (λ q. fed q (y ∷ ys))) m.all
 
 -- no backspace comes first in whole cells
-pub more_strays : (h : Half) (t : Told) → t.strays ≤ (let_go_by h t).strays
+pub more_strays : (h : Half) (t : Emitted) → t.strays ≤ (let_go_by h t).strays
 more_strays Nothing t = omega arith
 more_strays (Byte b) t = omega arith
 more_strays (Backspaced b) t = omega arith
@@ -100,11 +100,11 @@ more_strays (Backspaced b) t = omega arith
 back_first : (s u : Reader) (ys p : List ℕ) → s.half ≡ Nothing → Makes s u (8 ∷ ys) p → ⊥
 back_first s u ys p none m =
     let t = fed s (8 ∷ ys) in
-    let one : read 8 s ≡ told s [] 1 = read-fresh 8 s none in
-    let rest : t ≡ then_told (told s [] 1) (λ q. fed q ys) = ap (λ (v : Told). then_told v (λ q. fed q ys)) one in
-    let least : t.strays ≡ 1 + (fed s ys).strays = ap (λ (v : Told). v.strays) rest in
+    let one : read 8 s ≡ emitted s [] 1 = read-fresh 8 s none in
+    let rest : t ≡ then_emitted (emitted s [] 1) (λ q. fed q ys) = ap (λ (v : Emitted). then_emitted v (λ q. fed q ys)) one in
+    let least : t.strays ≡ 1 + (fed s ys).strays = ap (λ (v : Emitted). v.strays) rest in
     let far = more_strays t.reader.half t in
-    let end : (let_go t).strays ≡ 0 = ap (λ (v : Told). v.strays) m.all in
+    let end : (let_go t).strays ≡ 0 = ap (λ (v : Emitted). v.strays) m.all in
     omega (arith, least, far, end)
 
 is_back : (y : ℕ) → (y == 8) ≡ true → y ≡ 8
@@ -121,29 +121,29 @@ not-back s u y ys p none m = not_back_by (y == 8) s u y ys p refl none m
 
 pub Makes-then : (r s u : Reader) (xs ys o p : List ℕ) → s.half ≡ Nothing → Makes r s xs o → Makes s u ys p → Makes r u (xs ++ ys) (o ++ p)
 Makes-then r s u xs [] o p none m n =
-    let same : told s [] 0 ≡ told u p 0 = sym (let_go-same (told s [] 0) none) ∙ n.all in
-    let reader : s ≡ u = ap (λ (t : Told). t.reader) same in
-    let bytes : [] ≡ p = ap (λ (t : Told). t.bytes) same in
+    let same : emitted s [] 0 ≡ emitted u p 0 = sym (let_go-same (emitted s [] 0) none) ∙ n.all in
+    let reader : s ≡ u = ap (λ (t : Emitted). t.reader) same in
+    let bytes : [] ≡ p = ap (λ (t : Emitted). t.bytes) same in
     let P : List ℕ → Type 0 = λ zs. Makes r s zs o in
     let Q : List ℕ → Type 0 = λ zs. Makes r s (xs ++ []) zs in
     let R : List ℕ → Type 0 = λ zs. Makes r s (xs ++ []) (o ++ zs) in
     let S : Reader → Type 0 = λ v. Makes r v (xs ++ []) (o ++ p) in
     subst S reader (subst R bytes (subst Q (sym (append-nil o)) (subst P (sym (append-nil xs)) m)))
 Makes-then r s u xs (y ∷ ys) o p none m n =
-    let key = fed-behind r s xs o y ys m (not-back s u y ys p none n) in
+    let key = fed-preceded r s xs o y ys m (not-back s u y ys p none n) in
     let first = m.few in
     let second = n.few in
     let long = length-append xs (y ∷ ys) in
     let wide = length-append o p in
     record {
-      all = ap let_go key ∙ let_go-behind o 0 (fed s (y ∷ ys)) ∙ ap (λ (t : Told). behind o 0 t) n.all;
-      rested = ap (λ (t : Told). rests t.reader) key ∙ n.rested;
+      all = ap let_go key ∙ let_go-preceded o 0 (fed s (y ∷ ys)) ∙ ap (λ (t : Emitted). preceded o 0 t) n.all;
+      rested = ap (λ (t : Emitted). rests t.reader) key ∙ n.rested;
       few = omega (arith, first, second, long, wide);
     }
 
 pub Makes-none : (r : Reader) → r.half ≡ Nothing → Makes r r [] []
 Makes-none r none = record {
-  all = let_go-same (told r [] 0) none;
+  all = let_go-same (emitted r [] 0) none;
   rested = ap (λ (h : Half). rests_by h r.way) none;
   few = omega arith;
 }
@@ -246,16 +246,16 @@ pub Makes-gap : (r : Reader) (b : ℕ) → r.half ≡ Nothing → goes_out r.tab
     → Makes r (turned Plain r) (b ∷ []) (turning r.way Plain ++ text r.table b)
 Makes-gap r b none goes hidden =
     let o = turning r.way Plain ++ text r.table b in
-    let one : read b r ≡ told (turned Plain r) o 0 =
-    read-fresh b r none ∙ told-not (shows r.table b) (told (with_half (Byte b) r) [] 0) (put_alone b r) hidden
-    ∙ told-if (goes_out r.table b) (out (Once b) r) (told r [] 1) goes in
-    let all : fed r (b ∷ []) ≡ told (turned Plain r) o 0 = ap (λ (t : Told). then_told t (λ s. told s [] 0)) one ∙ told-eq _ _ _ _ _ _ refl (append-nil o) refl in
+    let one : read b r ≡ emitted (turned Plain r) o 0 =
+    read-fresh b r none ∙ emitted-not (shows r.table b) (emitted (with_half (Byte b) r) [] 0) (put_alone b r) hidden
+    ∙ emitted-if (goes_out r.table b) (out (Once b) r) (emitted r [] 1) goes in
+    let all : fed r (b ∷ []) ≡ emitted (turned Plain r) o 0 = ap (λ (t : Emitted). then_emitted t (λ s. emitted s [] 0)) one ∙ emitted-eq _ _ _ _ _ _ refl (append-nil o) refl in
     let long = length-append (turning r.way Plain) (text r.table b) in
     let few = few-text r.table b in
     let owes = turned_owes r.way in
     record {
-      all = ap let_go all ∙ let_go-same (told (turned Plain r) o 0) none;
-      rested = ap (λ (t : Told). rests t.reader) all ∙ ap (λ (h : Half). rests_by h (way_to r.way Plain)) none;
+      all = ap let_go all ∙ let_go-same (emitted (turned Plain r) o 0) none;
+      rested = ap (λ (t : Emitted). rests t.reader) all ∙ ap (λ (h : Half). rests_by h (way_to r.way Plain)) none;
       few = omega (arith, long, few, owes);
     }
 
@@ -263,18 +263,18 @@ Makes-gap r b none goes hidden =
 makes_shown : (r : Reader) (b : ℕ) → IsFresh r → goes_out r.table b ≡ true → shows r.table b ≡ true → Makes r r (b ∷ []) (text r.table b)
 makes_shown r b fresh_is goes is =
     let held : Reader = with_half (Byte b) r in
-    let one : read b r ≡ told held [] 0 = read-fresh b r fresh_is.half ∙ told-if (shows r.table b) (told held [] 0) (put_alone b r) is in
-    let all : fed r (b ∷ []) ≡ told held [] 0 = ap (λ (t : Told). then_told t (λ s. told s [] 0)) one in
+    let one : read b r ≡ emitted held [] 0 = read-fresh b r fresh_is.half ∙ emitted-if (shows r.table b) (emitted held [] 0) (put_alone b r) is in
+    let all : fed r (b ∷ []) ≡ emitted held [] 0 = ap (λ (t : Emitted). then_emitted t (λ s. emitted s [] 0)) one in
     let turned_is : turned Plain (with_half Nothing held) ≡ r = ap (λ (s : Reader). turned Plain s) (with-same r fresh_is.half) ∙ turned-shut r fresh_is.shut in
     let bytes : turning r.way Plain ++ text r.table b ≡ text r.table b = ap (λ (xs : List ℕ). xs ++ text r.table b) (shut_turning r.way fresh_is.shut) in
-    let goes_by : let_go (told held [] 0) ≡ told r (text r.table b) 0 =
-    ap (λ (t : Told). behind [] 0 t) (told-if (goes_out r.table b) (out (Once b) (with_half Nothing held)) (told (with_half Nothing held) [] 1) goes)
-    ∙ told-eq _ _ _ _ _ _ turned_is bytes refl in
+    let goes_by : let_go (emitted held [] 0) ≡ emitted r (text r.table b) 0 =
+    ap (λ (t : Emitted). preceded [] 0 t) (emitted-if (goes_out r.table b) (out (Once b) (with_half Nothing held)) (emitted (with_half Nothing held) [] 1) goes)
+    ∙ emitted-eq _ _ _ _ _ _ turned_is bytes refl in
     let few = few-text r.table b in
     let owes = none-owed r.way fresh_is.shut in
     record {
       all = ap let_go all ∙ goes_by;
-      rested = ap (λ (t : Told). rests t.reader) all ∙ fresh_is.shut;
+      rested = ap (λ (t : Emitted). rests t.reader) all ∙ fresh_is.shut;
       few = omega (arith, few, owes);
     }
 
@@ -318,16 +318,16 @@ Makes-struck r a b none is =
     let d = drawn r.table r.way (Over a b) in
     let held : Reader = with_half (Byte a) r in
     let backed : Reader = with_half (Backspaced a) r in
-    let first : read a r ≡ told held [] 0 = read-fresh a r none ∙ told-if (shows r.table a) (told held [] 0) (put_alone a r) (strikes-shows r.table a b is) in
-    let last : read b backed ≡ out (Over a b) (with_half Nothing r) = told-if (strikes r.table a b) (out (Over a b) (with_half Nothing r)) (released_and_fresh b backed) is in
-    let all : fed r (a ∷ 8 ∷ b ∷ []) ≡ told (out (Over a b) r).reader d 0 =
-    ap (λ (t : Told). then_told t (λ s. fed s (8 ∷ b ∷ []))) first
-    ∙ ap (λ (t : Told). behind [] 0 (behind [] 0 (then_told t (λ s. told s [] 0)))) last
-    ∙ told-eq _ _ _ _ _ _ (ap (λ (s : Reader). (out (Over a b) s).reader) (with-same r none)) (append-nil d) refl in
+    let first : read a r ≡ emitted held [] 0 = read-fresh a r none ∙ emitted-if (shows r.table a) (emitted held [] 0) (put_alone a r) (strikes-shows r.table a b is) in
+    let last : read b backed ≡ out (Over a b) (with_half Nothing r) = emitted-if (strikes r.table a b) (out (Over a b) (with_half Nothing r)) (released_and_fresh b backed) is in
+    let all : fed r (a ∷ 8 ∷ b ∷ []) ≡ emitted (out (Over a b) r).reader d 0 =
+    ap (λ (t : Emitted). then_emitted t (λ s. fed s (8 ∷ b ∷ []))) first
+    ∙ ap (λ (t : Emitted). preceded [] 0 (preceded [] 0 (then_emitted t (λ s. emitted s [] 0)))) last
+    ∙ emitted-eq _ _ _ _ _ _ (ap (λ (s : Reader). (out (Over a b) s).reader) (with-same r none)) (append-nil d) refl in
     let few = few_struck r.table r.way a b in
     record {
-      all = ap let_go all ∙ let_go-same (told (out (Over a b) r).reader d 0) none;
-      rested = ap (λ (t : Told). rests t.reader) all ∙ ap (λ (h : Half). rests_by h (way_after r.way (Over a b))) none;
+      all = ap let_go all ∙ let_go-same (emitted (out (Over a b) r).reader d 0) none;
+      rested = ap (λ (t : Emitted). rests t.reader) all ∙ ap (λ (h : Half). rests_by h (way_after r.way (Over a b))) none;
       few = omega (arith, few);
     }
 

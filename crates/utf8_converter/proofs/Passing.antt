@@ -10,11 +10,11 @@ use Rattle.nr_units.specs.Failures.{SinkFailures, next_count, put_counted}
 use Rattle.nr_units.specs.Sink.{AppendsPrefix}
 use Rattle.nr_units.specs.declared.source.Fault.{Fault}
 use Rattle.nr_units.proofs.Prefixes.{AppendsPrefix-append, AppendsPrefix-after}
-use Rattle.document_stages.specs.Running.{Flushes, FrontAtErr, at_most}
+use Rattle.document_stages.specs.Running.{Flushes, PrefixAtErr, at_most}
 use Rattle.utf8_converter.specs.declared.reader.Reader.{Reader}
-use Rattle.utf8_converter.specs.Reading.{Told, fed, first_reader}
+use Rattle.utf8_converter.specs.Reading.{Emitted, fed, first_reader}
 use Rattle.utf8_converter.specs.Staged.{ReadsSome}
-use Rattle.utf8_converter.specs.Showing.{Broke, Fronts, Making, Reads, Sends, Stands, StandsOr, TakesAll, TakesSome}
+use Rattle.utf8_converter.specs.Showing.{Broke, AddsPrefix, Making, Reads, Sends, Stands, StandsOr, TakesAll, TakesSome}
 use Rattle.utf8_converter.proofs.Reading.{fed-append_bytes, fed-append_reader, fed-append_strays}
 use Rattle.utf8_converter.proofs.Staging.{at_most-none}
 
@@ -27,10 +27,10 @@ Flushes-then a b c p left end g f h = record {
   all = ap (λ (xs : List ℕ). xs ++ g) f.all ∙ append_assoc f.out left g ∙ ap (λ (xs : List ℕ). f.out ++ xs) h.all ∙ sym (append_assoc f.out h.out end);
 }
 
-pub Fronts-then : (a b c : Option (List ℕ)) (p left g : List ℕ) → Flushes a b p left → AppendsPrefix b c (left ++ g) → AppendsPrefix a c (p ++ g)
-Fronts-then a b c p left g f front =
+pub AddsPrefix-then : (a b c : Option (List ℕ)) (p left g : List ℕ) → Flushes a b p left → AppendsPrefix b c (left ++ g) → AppendsPrefix a c (p ++ g)
+AddsPrefix-then a b c p left g f prefix =
     let P : List ℕ → Type 0 = λ xs. AppendsPrefix a c xs in
-    subst P (sym (append_assoc f.out left g) ∙ ap (λ (xs : List ℕ). xs ++ g) (sym f.all)) (AppendsPrefix-after a b c f.out (left ++ g) f.went_out front)
+    subst P (sym (append_assoc f.out left g) ∙ ap (λ (xs : List ℕ). xs ++ g) (sym f.all)) (AppendsPrefix-after a b c f.out (left ++ g) f.went_out prefix)
 
 -- ---- counts that stop
 
@@ -51,11 +51,11 @@ pub Reads-then : (a b c : Option (List ℕ)) (r s u : Reader) (p q left : List �
 Reads-then a b c r s u p q left i j k xs ys f g =
     let F = fed r xs in
     let here : fed F.reader ys ≡ fed s ys = ap (λ (x : Reader). fed x ys) (sym f.reader) in
-    let bytes : (fed r (xs ++ ys)).bytes ≡ F.bytes ++ (fed s ys).bytes = fed-append_bytes r xs ys ∙ ap (λ (t : Told). F.bytes ++ t.bytes) here in
-    let strays : (fed r (xs ++ ys)).strays ≡ F.strays + (fed s ys).strays = fed-append_strays r xs ys ∙ ap (λ (t : Told). F.strays + t.strays) here in
+    let bytes : (fed r (xs ++ ys)).bytes ≡ F.bytes ++ (fed s ys).bytes = fed-append_bytes r xs ys ∙ ap (λ (t : Emitted). F.bytes ++ t.bytes) here in
+    let strays : (fed r (xs ++ ys)).strays ≡ F.strays + (fed s ys).strays = fed-append_strays r xs ys ∙ ap (λ (t : Emitted). F.strays + t.strays) here in
     let P : List ℕ → Type 0 = λ zs. Flushes a c zs left in
     record {
-      reader = g.reader ∙ ap (λ (t : Told). t.reader) (sym here) ∙ sym (fed-append_reader r xs ys);
+      reader = g.reader ∙ ap (λ (t : Emitted). t.reader) (sym here) ∙ sym (fed-append_reader r xs ys);
       out = subst P (append_assoc p F.bytes (fed s ys).bytes ∙ ap (λ (zs : List ℕ). p ++ zs) (sym bytes)) (Flushes-then a b c (p ++ F.bytes) q left (fed s ys).bytes f.out g.out);
       made = g.made ∙ ap (λ (n : ℕ). at_most (n + (fed s ys).strays)) f.made ∙ at_most-more i F.strays (fed s ys).strays ∙ ap (λ (n : ℕ). at_most (i + n)) (sym strays);
     }
@@ -68,56 +68,56 @@ Reads-some a b r s p left i j bs n room end reads out =
     record { reader = reads.reader; out = subst P reads.out out; made = reads.made }
 
 -- a front of what these bytes come to is one of what more come to
-pub Front-more : (a b : Option (List ℕ)) (r : Reader) (p : List ℕ) (n : ℕ) (bytes : List ℕ) → AppendsPrefix a b (p ++ (fed r (take n bytes)).bytes) → AppendsPrefix a b (p ++ (fed r bytes).bytes)
-Front-more a b r p n bytes front =
+pub Prefix-more : (a b : Option (List ℕ)) (r : Reader) (p : List ℕ) (n : ℕ) (bytes : List ℕ) → AppendsPrefix a b (p ++ (fed r (take n bytes)).bytes) → AppendsPrefix a b (p ++ (fed r bytes).bytes)
+Prefix-more a b r p n bytes prefix =
     let rest = (fed (fed r (take n bytes)).reader (drop n bytes)).bytes in
     let whole : (fed r (take n bytes)).bytes ++ rest ≡ (fed r bytes).bytes =
     sym (fed-append_bytes r (take n bytes) (drop n bytes)) ∙ ap (λ (xs : List ℕ). (fed r xs).bytes) (take-append-drop n bytes) in
     let P : List ℕ → Type 0 = λ xs. AppendsPrefix a b xs in
-    subst P (append_assoc p (fed r (take n bytes)).bytes rest ∙ ap (λ (xs : List ℕ). p ++ xs) whole) (AppendsPrefix-append a b (p ++ (fed r (take n bytes)).bytes) rest front)
+    subst P (append_assoc p (fed r (take n bytes)).bytes rest ∙ ap (λ (xs : List ℕ). p ++ xs) whole) (AppendsPrefix-append a b (p ++ (fed r (take n bytes)).bytes) rest prefix)
 
 -- and behind bytes that were read
-pub Front-then : (a b c : Option (List ℕ)) (r s : Reader) (p q : List ℕ) (i j : ℕ) (xs ys : List ℕ) → Reads a b r s p q i j xs → AppendsPrefix b c (q ++ (fed s ys).bytes)
+pub Prefix-then : (a b c : Option (List ℕ)) (r s : Reader) (p q : List ℕ) (i j : ℕ) (xs ys : List ℕ) → Reads a b r s p q i j xs → AppendsPrefix b c (q ++ (fed s ys).bytes)
     → AppendsPrefix a c (p ++ (fed r (xs ++ ys)).bytes)
-Front-then a b c r s p q i j xs ys f front =
+Prefix-then a b c r s p q i j xs ys f prefix =
     let F = fed r xs in
     let here : fed F.reader ys ≡ fed s ys = ap (λ (x : Reader). fed x ys) (sym f.reader) in
-    let bytes : (fed r (xs ++ ys)).bytes ≡ F.bytes ++ (fed s ys).bytes = fed-append_bytes r xs ys ∙ ap (λ (t : Told). F.bytes ++ t.bytes) here in
+    let bytes : (fed r (xs ++ ys)).bytes ≡ F.bytes ++ (fed s ys).bytes = fed-append_bytes r xs ys ∙ ap (λ (t : Emitted). F.bytes ++ t.bytes) here in
     let P : List ℕ → Type 0 = λ zs. AppendsPrefix a c zs in
-    subst P (append_assoc p F.bytes (fed s ys).bytes ∙ ap (λ (zs : List ℕ). p ++ zs) (sym bytes)) (Fronts-then a b c (p ++ F.bytes) q (fed s ys).bytes f.out front)
+    subst P (append_assoc p F.bytes (fed s ys).bytes ∙ ap (λ (zs : List ℕ). p ++ zs) (sym bytes)) (AddsPrefix-then a b c (p ++ F.bytes) q (fed s ys).bytes f.out prefix)
 
 -- where the sink failed
 pub Some-err : (x : Result ℕ Fault) (a b : Option (List ℕ)) (r s : Reader) (p left : List ℕ) (i j : ℕ) (bytes : List ℕ) → IsErr x → AppendsPrefix a b (p ++ (fed r bytes).bytes)
     → TakesSome a b r s p left i j bytes x
-Some-err (Ok n) a b r s p left i j bytes e front = absurd (let never : false ≡ true = e in cc)
-Some-err (Err f) a b r s p left i j bytes e front = front
+Some-err (Ok n) a b r s p left i j bytes e prefix = absurd (let never : false ≡ true = e in cc)
+Some-err (Err f) a b r s p left i j bytes e prefix = prefix
 
 pub All-err : (x : Result (Unit {0}) Fault) (a b : Option (List ℕ)) (r s : Reader) (p left : List ℕ) (i j : ℕ) (bytes : List ℕ) → IsErr x → AppendsPrefix a b (p ++ (fed r bytes).bytes)
     → TakesAll a b r s p left i j bytes x
-All-err (Ok n) a b r s p left i j bytes e front = absurd (let never : false ≡ true = e in cc)
-All-err (Err f) a b r s p left i j bytes e front = front
+All-err (Ok n) a b r s p left i j bytes e prefix = absurd (let never : false ≡ true = e in cc)
+All-err (Err f) a b r s p left i j bytes e prefix = prefix
 
 pub counted-err : (x : Result (Unit {0}) Fault) (old loop new : SinkFailures) → IsErr x → loop ≡ old → new ≡ record loop { puts = next_count loop.puts } → new ≡ put_counted old x
 counted-err (Ok n) old loop new e same is = absurd (let never : false ≡ true = e in cc)
 counted-err (Err f) old loop new e same is = is ∙ ap (λ (q : SinkFailures). record q { puts = next_count q.puts }) same
 
 -- what waits goes out
-pub Waits-out : (x : Result (Unit {0}) Fault) (a b : Option (List ℕ)) (r : Reader) (p left : List ℕ) (i : ℕ) → i < 2 ^ 64 → OnOk x (Appends a b p) → FrontAtErr x a b p → OnOk x (left ≡ [])
+pub Waits-out : (x : Result (Unit {0}) Fault) (a b : Option (List ℕ)) (r : Reader) (p left : List ℕ) (i : ℕ) → i < 2 ^ 64 → OnOk x (Appends a b p) → PrefixAtErr x a b p → OnOk x (left ≡ [])
     → TakesAll a b r r p left i i [] x
-Waits-out (Ok x) a b r p left i l went front none = record {
+Waits-out (Ok x) a b r p left i l went prefix none = record {
   reader = refl;
   out = record { out = p; went_out = went; all = ap (λ (xs : List ℕ). p ++ xs) (sym none) };
   made = at_most-none i l;
 }
-Waits-out (Err e) a b r p left i l went front none =
+Waits-out (Err e) a b r p left i l went prefix none =
     let P : List ℕ → Type 0 = λ xs. AppendsPrefix a b xs in
-    subst P (sym (append-nil p)) front
+    subst P (sym (append-nil p)) prefix
 
-pub Flushes-front : (x : Result ℕ Fault) (a b c : Option (List ℕ)) (p left : List ℕ) → Flushes a b p left → AppendsPrefix b c left → FrontAtErr x a c p
-Flushes-front (Ok n) a b c p left f front = tt
-Flushes-front (Err e) a b c p left f front =
+pub Flushes-prefix : (x : Result ℕ Fault) (a b c : Option (List ℕ)) (p left : List ℕ) → Flushes a b p left → AppendsPrefix b c left → PrefixAtErr x a c p
+Flushes-prefix (Ok n) a b c p left f prefix = tt
+Flushes-prefix (Err e) a b c p left f prefix =
     let P : List ℕ → Type 0 = λ xs. AppendsPrefix a c xs in
-    subst P (sym f.all) (AppendsPrefix-after a b c f.out left f.went_out front)
+    subst P (sym f.all) (AppendsPrefix-after a b c f.out left f.went_out prefix)
 
 -- ---- what the other sink holds
 
@@ -134,11 +134,11 @@ Sends-on (Some xs) (Some ys) (Some zs) waits left text more s f =
       omega (arith, long, before),
     )
 
-pub Fronts-of : (begun a b : Option (List ℕ)) (waits text more : List ℕ) → Sends begun a waits text → AppendsPrefix a b (waits ++ more) → Fronts begun b (text ++ more)
-Fronts-of None a b waits text more s f = tt
-Fronts-of (Some xs) None b waits text more s f = absurd s
-Fronts-of (Some xs) (Some ys) None waits text more s f = absurd f.3
-Fronts-of (Some xs) (Some ys) (Some zs) waits text more s f =
+pub AddsPrefix-of : (begun a b : Option (List ℕ)) (waits text more : List ℕ) → Sends begun a waits text → AppendsPrefix a b (waits ++ more) → AddsPrefix begun b (text ++ more)
+AddsPrefix-of None a b waits text more s f = tt
+AddsPrefix-of (Some xs) None b waits text more s f = absurd s
+AddsPrefix-of (Some xs) (Some ys) None waits text more s f = absurd f.3
+AddsPrefix-of (Some xs) (Some ys) (Some zs) waits text more s f =
     let grown : zs ≡ ys ++ f.0 = f.3 in
     let long : length zs ≡ length ys + length f.0 = ap length grown ∙ length-append ys f.0 in
     let before : length xs ≤ length ys = s.1 in
@@ -147,14 +147,14 @@ Fronts-of (Some xs) (Some ys) (Some zs) waits text more s f =
     ∙ sym (append_assoc ys f.0 f.1) ∙ ap (λ (ws : List ℕ). ws ++ f.1) (sym grown) in
     (ap (λ (ws : List ℕ). take (length zs) ws) all ∙ take-append-le (length zs) zs f.1 (omega arith) ∙ take_all (length zs) zs (omega arith), omega (arith, long, before))
 
-pub Fronts-more : (begun a : Option (List ℕ)) (text more : List ℕ) → Fronts begun a text → Fronts begun a (text ++ more)
-Fronts-more None a text more f = tt
-Fronts-more (Some xs) None text more f = absurd f
-Fronts-more (Some xs) (Some ys) text more f =
-    let front : take (length ys) (xs ++ text) ≡ ys = f.0 in
+pub AddsPrefix-more : (begun a : Option (List ℕ)) (text more : List ℕ) → AddsPrefix begun a text → AddsPrefix begun a (text ++ more)
+AddsPrefix-more None a text more f = tt
+AddsPrefix-more (Some xs) None text more f = absurd f
+AddsPrefix-more (Some xs) (Some ys) text more f =
+    let prefix : take (length ys) (xs ++ text) ≡ ys = f.0 in
     let most = length-take (length ys) (xs ++ text) in
-    let same : length (take (length ys) (xs ++ text)) ≡ length ys = ap length front in
-    (ap (λ (ws : List ℕ). take (length ys) ws) (sym (append_assoc xs text more)) ∙ take-append-le (length ys) (xs ++ text) more (omega (arith, most, same)) ∙ front, f.1)
+    let same : length (take (length ys) (xs ++ text)) ≡ length ys = ap length prefix in
+    (ap (λ (ws : List ℕ). take (length ys) ws) (sym (append_assoc xs text more)) ∙ take-append-le (length ys) (xs ++ text) more (omega (arith, most, same)) ∙ prefix, f.1)
 
 pub Sends-kept : (begun a b : Option (List ℕ)) (waits text : List ℕ) → Sends begun a waits text → Keeps a b → Sends begun b waits text
 Sends-kept None a b waits text s k = tt
@@ -174,15 +174,15 @@ Sends-all (Some xs) (Some ys) (Some zs) waits text more s f =
     let grown : zs ≡ ys ++ (waits ++ more) = f in
     grown ∙ sym (append_assoc ys waits more) ∙ ap (λ (ws : List ℕ). ws ++ more) s.0 ∙ append_assoc xs text more
 
-pub Fronts-Appends : (begun a : Option (List ℕ)) (text : List ℕ) → Fronts begun a text → AppendsPrefix begun a text
-Fronts-Appends None a text f = ([], text, refl, tt)
-Fronts-Appends (Some xs) None text f = absurd f
-Fronts-Appends (Some xs) (Some ys) text f =
+pub AddsPrefix-Appends : (begun a : Option (List ℕ)) (text : List ℕ) → AddsPrefix begun a text → AppendsPrefix begun a text
+AddsPrefix-Appends None a text f = ([], text, refl, tt)
+AddsPrefix-Appends (Some xs) None text f = absurd f
+AddsPrefix-Appends (Some xs) (Some ys) text f =
     let n = length ys - length xs in
     let far : length xs ≤ length ys = f.1 in
     let at : length ys ≡ length xs + n = omega (arith, far) in
-    let front : take (length ys) (xs ++ text) ≡ xs ++ take n text = ap (λ (k : ℕ). take k (xs ++ text)) at ∙ take-append-add xs text n in
-    (take n text, drop n text, sym (take-append-drop n text), sym f.0 ∙ front)
+    let prefix : take (length ys) (xs ++ text) ≡ xs ++ take n text = ap (λ (k : ℕ). take k (xs ++ text)) at ∙ take-append-add xs text n in
+    (take n text, drop n text, sym (take-append-drop n text), sym f.0 ∙ prefix)
 
 -- ---- how it stands
 
@@ -207,11 +207,11 @@ Stands-read m came bytes a b f g r s p left i j st reads same =
     let first = first_reader m.table m.escapes in
     let F = fed first came in
     let here : fed F.reader bytes ≡ fed r bytes = ap (λ (x : Reader). fed x bytes) (sym st.reader) in
-    let whole : (fed first (came ++ bytes)).bytes ≡ F.bytes ++ (fed r bytes).bytes = fed-append_bytes first came bytes ∙ ap (λ (t : Told). F.bytes ++ t.bytes) here in
-    let strays : (fed first (came ++ bytes)).strays ≡ F.strays + (fed r bytes).strays = fed-append_strays first came bytes ∙ ap (λ (t : Told). F.strays + t.strays) here in
+    let whole : (fed first (came ++ bytes)).bytes ≡ F.bytes ++ (fed r bytes).bytes = fed-append_bytes first came bytes ∙ ap (λ (t : Emitted). F.bytes ++ t.bytes) here in
+    let strays : (fed first (came ++ bytes)).strays ≡ F.strays + (fed r bytes).strays = fed-append_strays first came bytes ∙ ap (λ (t : Emitted). F.strays + t.strays) here in
     let P : List ℕ → Type 0 = λ xs. Sends m.begun b left xs in
     record {
-      reader = reads.reader ∙ ap (λ (t : Told). t.reader) (sym here) ∙ sym (fed-append_reader first came bytes);
+      reader = reads.reader ∙ ap (λ (t : Emitted). t.reader) (sym here) ∙ sym (fed-append_reader first came bytes);
       out = subst P (sym whole) (Sends-on m.begun a b p left F.bytes (fed r bytes).bytes st.out reads.out);
       made = reads.made ∙ ap (λ (n : ℕ). at_most (n + (fed r bytes).strays)) st.made ∙ at_most-two F.strays (fed r bytes).strays ∙ ap at_most (sym strays);
       none = same ∙ st.none;
@@ -219,14 +219,14 @@ Stands-read m came bytes a b f g r s p left i j st reads same =
 
 pub Stands-broke : (m : Making) (came bytes : List ℕ) (a b : Option (List ℕ)) (f g : ℕ) (r : Reader) (p : List ℕ) (i : ℕ) → Stands m came a f r p i → AppendsPrefix a b (p ++ (fed r bytes).bytes)
     → g ≡ next_count f → Broke m (came ++ bytes) b g
-Stands-broke m came bytes a b f g r p i st front one =
+Stands-broke m came bytes a b f g r p i st prefix one =
     let first = first_reader m.table m.escapes in
     let F = fed first came in
     let whole : (fed first (came ++ bytes)).bytes ≡ F.bytes ++ (fed r bytes).bytes =
     fed-append_bytes first came bytes ∙ ap (λ (x : Reader). F.bytes ++ (fed x bytes).bytes) (sym st.reader) in
-    let P : List ℕ → Type 0 = λ xs. Fronts m.begun b xs in
+    let P : List ℕ → Type 0 = λ xs. AddsPrefix m.begun b xs in
     record {
-      out = subst P (sym whole) (Fronts-of m.begun a b p F.bytes (fed r bytes).bytes st.out front);
+      out = subst P (sym whole) (AddsPrefix-of m.begun a b p F.bytes (fed r bytes).bytes st.out prefix);
       one = one ∙ ap next_count st.none;
     }
 
@@ -234,8 +234,8 @@ pub Broke-more : (m : Making) (came bytes : List ℕ) (a : Option (List ℕ)) (f
 Broke-more m came bytes a f br =
     let first = first_reader m.table m.escapes in
     let F = fed first came in
-    let P : List ℕ → Type 0 = λ xs. Fronts m.begun a xs in
-    record { out = subst P (sym (fed-append_bytes first came bytes)) (Fronts-more m.begun a F.bytes (fed F.reader bytes).bytes br.out); one = br.one }
+    let P : List ℕ → Type 0 = λ xs. AddsPrefix m.begun a xs in
+    record { out = subst P (sym (fed-append_bytes first came bytes)) (AddsPrefix-more m.begun a F.bytes (fed F.reader bytes).bytes br.out); one = br.one }
 
 broke_is : (m : Making) (came new : List ℕ) (a b : Option (List ℕ)) (f g : ℕ) → new ≡ came → b ≡ a → g ≡ f → Broke m came a f → Broke m new b g
 broke_is m came new a b f g more held failed br =
@@ -279,8 +279,8 @@ broken-more true m came new bytes a b f g r p i e st more held failed = ∥∥�
 
 pub breaks : (z : Bool) (m : Making) (came new bytes : List ℕ) (a b : Option (List ℕ)) (f g : ℕ) (r : Reader) (p : List ℕ) (i : ℕ) → z ≡ false → ∥ StandsOr z m came a f r p i ∥₁
     → new ≡ came ++ bytes → AppendsPrefix a b (p ++ (fed r bytes).bytes) → g ≡ next_count f → ∥ Broke m new b g ∥₁
-breaks false m came new bytes a b f g r p i e st more front failed = ∥∥₁_map st (λ s. broke_is m (came ++ bytes) new b b g g more refl refl (Stands-broke m came bytes a b f g r p i s front failed))
-breaks true m came new bytes a b f g r p i e st more front failed = absurd (let never : true ≡ false = e in cc)
+breaks false m came new bytes a b f g r p i e st more prefix failed = ∥∥₁_map st (λ s. broke_is m (came ++ bytes) new b b g g more refl refl (Stands-broke m came bytes a b f g r p i s prefix failed))
+breaks true m came new bytes a b f g r p i e st more prefix failed = absurd (let never : true ≡ false = e in cc)
 
 pub reads-on : (z : Bool) (m : Making) (came new bytes : List ℕ) (a b : Option (List ℕ)) (f g : ℕ) (r s : Reader) (p left : List ℕ) (i j : ℕ) → z ≡ false → ∥ StandsOr z m came a f r p i ∥₁
     → new ≡ came ++ bytes → Reads a b r s p left i j bytes → g ≡ f → ∥ StandsOr z m new b g s left j ∥₁

@@ -16,7 +16,7 @@ use Rattle.utf8_converter.specs.Shapes.{Shapes, StandAll, is_shaped, may_stand}
 use Rattle.utf8_converter.specs.Spelling.{AllLow, Cuts, Goes, IsChunk, IsFresh, IsShaped, Makes, Puts, Spells, byte_of, bytes_of, keeps_backspaces}
 use Rattle.utf8_converter.proofs.Goes.{Goes-of, Puts-long}
 use Rattle.utf8_converter.proofs.Makes.{Makes-none, Makes-once, Makes-struck, Makes-then}
-use Rattle.utf8_converter.proofs.Spelled.{Puts-front, all-spelled, byte-as-is, byte-text, bytes-as-are, bytes_append, some-goes}
+use Rattle.utf8_converter.proofs.Spelled.{Puts-prefix, all-spelled, byte-as-is, byte-text, bytes-as-are, bytes_append, some-goes}
 
 -- ---- what the tests tell
 
@@ -181,9 +181,9 @@ may_same b c e may = ap (λ (x : ℕ). may_stand x) e ∙ may
 shaped_same : (b c d x y z : ℕ) → b ≡ x → c ≡ y → d ≡ z → is_shaped x y z ≡ true → is_shaped b c d ≡ true
 shaped_same b c d x y z p q r shaped = ap (λ (u : ℕ). is_shaped u c d) p ∙ ap (λ (u : ℕ). is_shaped x u d) q ∙ ap (λ (u : ℕ). is_shaped x y u) r ∙ shaped
 
-first_or_behind : (k : ℕ) → (k ≡ 0) ⊎ (k - 1 + 1 ≡ k)
-first_or_behind zero = inl refl
-first_or_behind (suc k) = inr (omega arith)
+first_or_after : (k : ℕ) → (k ≡ 0) ⊎ (k - 1 + 1 ≡ k)
+first_or_after zero = inl refl
+first_or_after (suc k) = inr (omega arith)
 
 abbrev ShowAll : List ℕ → Type 0
 ShowAll bytes = (k : ℕ) → k < length bytes → is_shown (get_or bytes k 0) ≡ true
@@ -260,7 +260,7 @@ shaped-chunk s r bytes long small spells whole way shapes =
       way = λ k below is. way;
       some = all-spelled r.table s.all s.whole (take 32 bytes)
           (λ k below. let same = get_or-take 32 bytes k 0 (omega (arith, below, cut)) in let fits = small k in omega (arith, same, fits))
-          spells whole (λ k below. or_back bytes k first each (omega (arith, below, cut)) (first_or_behind k));
+          spells whole (λ k below. or_back bytes k first each (omega (arith, below, cut)) (first_or_after k));
     }
 
 -- ---- its front
@@ -275,22 +275,22 @@ chunk_last s r bytes k chunk below other (inr at) =
     let Q : ℕ → Type 0 = λ j. (get_or bytes j 0 == 8) ≡ false in
     subst P at (not-backspace (get_or bytes (k - 1) 0) (get_or bytes (k - 1 + 1) 0) (get_or bytes (k - 1 + 2) 0) (subst Q (sym at) other) (chunk.each (k - 1) (omega (arith, below, at))))
 
-same_front : (bytes : List ℕ) (n k : ℕ) → n ≤ 32 → k < n → get_or (take n (take 32 bytes)) k 0 ≡ get_or bytes k 0
-same_front bytes n k few below = get_or-take n (take 32 bytes) k 0 below ∙ get_or-take 32 bytes k 0 (omega (arith, few, below))
+same_prefix : (bytes : List ℕ) (n k : ℕ) → n ≤ 32 → k < n → get_or (take n (take 32 bytes)) k 0 ≡ get_or bytes k 0
+same_prefix bytes n k few below = get_or-take n (take 32 bytes) k 0 below ∙ get_or-take 32 bytes k 0 (omega (arith, few, below))
 
-front_shaped : (s : Spelling) (r : Reader) (bytes : List ℕ) (n : ℕ) → 34 ≤ length bytes → Small bytes → Spells r.table 256 s.all s.whole → IsChunk s r bytes → n ≤ 32
+prefix_shaped : (s : Spelling) (r : Reader) (bytes : List ℕ) (n : ℕ) → 34 ≤ length bytes → Small bytes → Spells r.table 256 s.all s.whole → IsChunk s r bytes → n ≤ 32
     → ((k : ℕ) → k + 1 ≡ n → (get_or bytes k 0 == 8) ≡ false) → IsShaped r (take n (take 32 bytes))
-front_shaped s r bytes n long small spells chunk few last =
+prefix_shaped s r bytes n long small spells chunk few last =
     let cut = length-take-le 32 bytes (omega (arith, long)) in
     let count = length-take-le n (take 32 bytes) (omega (arith, few, cut)) in
     record {
-      first = λ some. may_same (get_or (take n (take 32 bytes)) 0 0) (get_or bytes 0 0) (same_front bytes n 0 few (omega (arith, some, count))) chunk.first;
+      first = λ some. may_same (get_or (take n (take 32 bytes)) 0 0) (get_or bytes 0 0) (same_prefix bytes n 0 few (omega (arith, some, count))) chunk.first;
       each = λ k below. shaped_same (get_or (take n (take 32 bytes)) k 0) (get_or (take n (take 32 bytes)) (k + 1) 0) (get_or (take n (take 32 bytes)) (k + 2) 0) (get_or bytes k 0) (get_or bytes (k + 1) 0) (get_or bytes (k + 2) 0)
-          (same_front bytes n k few (omega (arith, below, count))) (same_front bytes n (k + 1) few (omega (arith, below, count))) (same_front bytes n (k + 2) few (omega (arith, below, count)))
+          (same_prefix bytes n k few (omega (arith, below, count))) (same_prefix bytes n (k + 1) few (omega (arith, below, count))) (same_prefix bytes n (k + 2) few (omega (arith, below, count)))
           (chunk.each k (omega (arith, below, few, count)));
-      last = λ k at. may_same (get_or (take n (take 32 bytes)) k 0) (get_or bytes k 0) (same_front bytes n k few (omega (arith, at, count)))
-          (chunk_last s r bytes k chunk (omega (arith, at, count, few)) (last k (omega (arith, at, count))) (first_or_behind k));
-      way = λ k below is. chunk.way k (omega (arith, below, count, few)) (sym (same_front bytes n k few (omega (arith, below, count))) ∙ is);
+      last = λ k at. may_same (get_or (take n (take 32 bytes)) k 0) (get_or bytes k 0) (same_prefix bytes n k few (omega (arith, at, count)))
+          (chunk_last s r bytes k chunk (omega (arith, at, count, few)) (last k (omega (arith, at, count))) (first_or_after k));
+      way = λ k below is. chunk.way k (omega (arith, below, count, few)) (sym (same_prefix bytes n k few (omega (arith, below, count))) ∙ is);
       some = λ k below. (let b = get_or (take 32 bytes) k 0 in
           let near : get_or (take n (take 32 bytes)) k 0 ≡ b = get_or-take n (take 32 bytes) k 0 (omega (arith, below, count)) in
           let same = get_or-take 32 bytes k 0 (omega (arith, below, count, few)) in
@@ -312,13 +312,13 @@ Puts-cut t bs old new from to end n put begins room left =
     let split : bytes_of t bs ≡ bytes_of t (take n bs) ++ bytes_of t (drop n bs) = ap (λ (xs : List ℕ). bytes_of t xs) (sym (take-append-drop n bs)) ∙ bytes_append t (take n bs) (drop n bs) in
     let long : length (bytes_of t bs) ≡ length (bytes_of t (take n bs) ++ bytes_of t (drop n bs)) = ap length split in
     let both = length-append (bytes_of t (take n bs)) (bytes_of t (drop n bs)) in
-    let front = take from old ++ bytes_of t (take n bs) in
+    let prefix = take from old ++ bytes_of t (take n bs) in
     let before = length-take-le from old begins in
     let wide = length-append (take from old) (bytes_of t (take n bs)) in
-    let all : take to new ≡ front ++ bytes_of t (drop n bs) = put ∙ ap (λ (xs : List ℕ). take from old ++ xs) split ∙ sym (append_assoc (take from old) (bytes_of t (take n bs)) (bytes_of t (drop n bs))) in
-    let same : length front ≡ end = omega (arith, far, long, both, before, wide, left) in
+    let all : take to new ≡ prefix ++ bytes_of t (drop n bs) = put ∙ ap (λ (xs : List ℕ). take from old ++ xs) split ∙ sym (append_assoc (take from old) (bytes_of t (take n bs)) (bytes_of t (drop n bs))) in
+    let same : length prefix ≡ end = omega (arith, far, long, both, before, wide, left) in
     sym (take-take end to new (omega (arith, left))) ∙ ap (λ (xs : List ℕ). take end xs) all
-    ∙ take-append-le end front (bytes_of t (drop n bs)) (omega (arith, same)) ∙ take_all end front (omega (arith, same))
+    ∙ take-append-le end prefix (bytes_of t (drop n bs)) (omega (arith, same)) ∙ take_all end prefix (omega (arith, same))
 
 -- that front of a chunk goes that ends in a whole cell
 pub Goes-chunk : (s : Spelling) (r : Reader) (bytes old new : List ℕ) (from to end n : ℕ) → IsFresh r → 34 ≤ length bytes → Small bytes → Spells r.table 256 s.all s.whole → IsChunk s r bytes
@@ -326,11 +326,11 @@ pub Goes-chunk : (s : Spelling) (r : Reader) (bytes old new : List ℕ) (from to
 Goes-chunk s r bytes old new from to end n fresh long small spells chunk cuts put begins room =
     let few : n ≤ 32 = cuts.few in
     let left : end + length (bytes_of r.table (drop n (take 32 bytes))) ≡ to = cuts.left in
-    let front : take n (take 32 bytes) ≡ take n bytes = take-take n 32 bytes few in
-    let put_front = Puts-cut r.table (take 32 bytes) old new from to end n put begins room left in
+    let prefix : take n (take 32 bytes) ≡ take n bytes = take-take n 32 bytes few in
+    let put_prefix = Puts-cut r.table (take 32 bytes) old new from to end n put begins room left in
     let P : List ℕ → Type 0 = λ xs. Makes r r xs (bytes_of r.table (take n (take 32 bytes))) in
-    let makes = subst P front (Makes-shaped r (take n (take 32 bytes)) fresh (front_shaped s r bytes n long small spells chunk few cuts.last)) in
-    Goes-of r r bytes (bytes_of r.table (take n (take 32 bytes))) n old new from end makes (omega (arith, few, long)) begins (omega (arith, left, room)) put_front
+    let makes = subst P prefix (Makes-shaped r (take n (take 32 bytes)) fresh (prefix_shaped s r bytes n long small spells chunk few cuts.last)) in
+    Goes-of r r bytes (bytes_of r.table (take n (take 32 bytes))) n old new from end makes (omega (arith, few, long)) begins (omega (arith, left, room)) put_prefix
 
 -- ---- where it is cut
 
@@ -427,7 +427,7 @@ pub Goes-shown : (s : Spelling) (r : Reader) (bytes old ys : List ℕ) (from k :
 Goes-shown s r bytes old ys from k fresh long small spells all copied room wide =
     let cut = length-take-le 32 bytes (omega (arith, long)) in
     let as_are : bytes_of r.table (take 32 bytes) ≡ take 32 bytes = bytes-as-are r.table (take 32 bytes) (λ j below. shown_as_is (get_or (take 32 bytes) j 0) (all j below)) in
-    let put : take (from + 32) (put_mid from k old ys) ≡ take from old ++ take 32 bytes = Puts-front bytes old ys from k 32 copied (omega (arith, long)) (omega (arith, room)) in
+    let put : take (from + 32) (put_mid from k old ys) ≡ take from old ++ take 32 bytes = Puts-prefix bytes old ys from k 32 copied (omega (arith, long)) (omega (arith, room)) in
     let chunk = shown-chunk s r bytes long small spells all in
     let P : ℕ → Type 0 = λ b. (b == 8) ≡ false in
     let last : (get_or bytes 31 0 == 8) ≡ false = subst P (get_or-take 32 bytes 31 0 (omega arith)) (stands_alone (get_or (take 32 bytes) 31 0) (shown_may (get_or (take 32 bytes) 31 0) (all 31 (omega (arith, cut))))) in

@@ -83,8 +83,8 @@ bytes_append t (x ∷ xs) ys =
 bytes_next : (t : Table) (bs : List ℕ) (i : ℕ) → i < length bs → bytes_of t (take (i + 1) bs) ≡ bytes_of t (take i bs) ++ byte_of t (get_or bs i 0)
 bytes_next t bs i l =
     let b = get_or bs i 0 in
-    let front : take (i + 1) bs ≡ take i bs ++ b ∷ [] = rw add-one (take-suc bs i 0 l) in
-    ap (λ (xs : List ℕ). bytes_of t xs) front ∙ bytes_append t (take i bs) (b ∷ [])
+    let prefix : take (i + 1) bs ≡ take i bs ++ b ∷ [] = rw add-one (take-suc bs i 0 l) in
+    ap (λ (xs : List ℕ). bytes_of t xs) prefix ∙ bytes_append t (take i bs) (b ∷ [])
     ∙ ap (λ (xs : List ℕ). bytes_of t (take i bs) ++ xs) (append-nil (byte_of t b))
 
 pub Puts-next : (t : Table) (bs : List ℕ) (i : ℕ) (old mid new : List ℕ) (from to end : ℕ) → i < length bs
@@ -181,7 +181,7 @@ Spelled-character t b c xs bytes unshown other is means same few =
     ap (λ (k : ℕ). get_or (xs ++ drop n ys) k 0) (sym there) ∙ get_or-append-add xs (drop n ys) (3 - n) 0 ∙ get_or-drop n ys (3 - n) 0 ∙ ap (λ (k : ℕ). get_or ys k 0) here in
     let counts : count_of (xs ++ drop n ys) ≡ n = omega (arith, last) in
     record {
-      front = ap (λ (k : ℕ). take k (xs ++ drop n ys)) counts ∙ take-append-le n xs (drop n ys) (omega (arith, long)) ∙ take_all n xs (omega (arith, long)) ∙ sym goes;
+      prefix = ap (λ (k : ℕ). take k (xs ++ drop n ys)) counts ∙ take-append-le n xs (drop n ys) (omega (arith, long)) ∙ take_all n xs (omega (arith, long)) ∙ sym goes;
       count = ap length goes ∙ long ∙ sym counts;
       four = omega (arith, both, rest, long, few);
       few = omega (arith, counts, few);
@@ -191,7 +191,7 @@ Spelled-character t b c xs bytes unshown other is means same few =
 pub Spelled-as-is : (t : Table) (b : ℕ) → (is_shown b || (b == 8)) ≡ true → IsSpelled t b (b ∷ 0 ∷ 0 ∷ 64 ∷ [])
 Spelled-as-is t b e =
     let same = byte-as-is t b e in
-    record { front = sym same; count = ap length same; four = refl; few = omega arith }
+    record { prefix = sym same; count = ap length same; four = refl; few = omega arith }
 
 text_none : (t : Table) (b : ℕ) → is_shown b ≡ false → character_of t b ≡ None → text t b ≡ []
 text_none t b isnt is = ap (λ (x : Bool). if_spelled (if x then Some b else character_of t b)) isnt ∙ ap if_spelled is
@@ -199,7 +199,7 @@ text_none t b isnt is = ap (λ (x : Bool). if_spelled (if x then Some b else cha
 pub Spelled-none : (t : Table) (b : ℕ) → is_shown b ≡ false → (b == 8) ≡ false → character_of t b ≡ None → IsSpelled t b (0 ∷ 0 ∷ 0 ∷ 0 ∷ [])
 Spelled-none t b unshown other is =
     let same = byte-text t b other ∙ text_none t b unshown is in
-    record { front = sym same; count = ap length same; four = refl; few = omega arith }
+    record { prefix = sym same; count = ap length same; four = refl; few = omega arith }
 
 -- ---- what stands in a room
 
@@ -209,7 +209,7 @@ Puts-spelled t b byte s room ys end k one same copied h =
     let four : length ys ≡ 4 = ap length copied ∙ one.four in
     let few : count_of s ≤ 3 = one.few in
     prefix_put end k (count_of s) room ys h (omega (arith, four, few))
-    ∙ ap (λ (xs : List ℕ). take end room ++ xs) (ap (λ (xs : List ℕ). take (count_of s) xs) copied ∙ one.front ∙ ap (λ (x : ℕ). byte_of t x) same)
+    ∙ ap (λ (xs : List ℕ). take end room ++ xs) (ap (λ (xs : List ℕ). take (count_of s) xs) copied ∙ one.prefix ∙ ap (λ (x : ℕ). byte_of t x) same)
 
 -- all of these
 pub Puts-whole : (room xs ys : List ℕ) (end k : ℕ) → ys ≡ xs → end ≤ length room → Puts room end (put_mid end k room ys) (end + length xs) xs
@@ -218,8 +218,8 @@ Puts-whole room xs ys end k copied h =
     prefix_put end k (length xs) room ys h (omega (arith, long))
     ∙ ap (λ (zs : List ℕ). take end room ++ zs) (take_all (length xs) ys (omega (arith, long)) ∙ copied)
 
-pub Puts-front : (bs room ys : List ℕ) (end k n : ℕ) → ys ≡ take n bs → n ≤ length bs → end ≤ length room → Puts room end (put_mid end k room ys) (end + n) (take n bs)
-Puts-front bs room ys end k n copied l h =
+pub Puts-prefix : (bs room ys : List ℕ) (end k n : ℕ) → ys ≡ take n bs → n ≤ length bs → end ≤ length room → Puts room end (put_mid end k room ys) (end + n) (take n bs)
+Puts-prefix bs room ys end k n copied l h =
     let long : length ys ≡ n = ap length copied ∙ length-take-le n bs l in
     prefix_put end k n room ys h (omega (arith, long))
     ∙ ap (λ (xs : List ℕ). take end room ++ xs) (ap (λ (xs : List ℕ). take n xs) copied ∙ take-take n n bs (omega arith))

@@ -3,7 +3,7 @@ use Rattle.std.proofs.Common.{◌≡◌, ℕ, ◌+◌, ◌^◌, ◌<◌, List, [
 use Rattle.document_stages.specs.Running.{at_most}
 use Rattle.document_stages.proofs.Runs as runs
 use Rattle.utf8_converter.specs.declared.reader.Reader.{Reader}
-use Rattle.utf8_converter.specs.Reading.{Told, ended, fed, read}
+use Rattle.utf8_converter.specs.Reading.{Emitted, ended, fed, read}
 use Rattle.utf8_converter.specs.Spelling.{Fills, Reads}
 use Rattle.utf8_converter.specs.Staged.{ReadsSome, counted, said, strays_said}
 use Rattle.utf8_converter.proofs.Reading.{fed-append_bytes, fed-append_reader, fed-append_strays}
@@ -18,13 +18,13 @@ pub some-cells : (r s : Reader) (bs : List ℕ) (n : ℕ) (room : List ℕ) (end
 some-cells r s bs n room end i l some reads = record {
   some = some;
   within = reads.within;
-  reader = sym (ap (λ (t : Told). t.reader) reads.all);
-  out = sym (ap (λ (t : Told). t.bytes) reads.all);
-  made = at_most-none i l ∙ ap (λ (k : ℕ). at_most (i + k)) (sym (ap (λ (t : Told). t.strays) reads.all));
+  reader = sym (ap (λ (t : Emitted). t.reader) reads.all);
+  out = sym (ap (λ (t : Emitted). t.bytes) reads.all);
+  made = at_most-none i l ∙ ap (λ (k : ℕ). at_most (i + k)) (sym (ap (λ (t : Emitted). t.strays) reads.all));
 }
 
 none-read : (r s : Reader) (bs : List ℕ) (n : ℕ) (room : List ℕ) (end : ℕ) → n ≡ 0 → Reads r s bs n room end → s ≡ r
-none-read r s bs n room end zero reads = sym (ap (λ (t : Told). t.reader) reads.all) ∙ ap (λ (k : ℕ). (fed r (take k bs)).reader) zero
+none-read r s bs n room end zero reads = sym (ap (λ (t : Emitted). t.reader) reads.all) ∙ ap (λ (k : ℕ). (fed r (take k bs)).reader) zero
 
 one_byte : (bs : List ℕ) → 0 < length bs → take 1 bs ≡ get_or bs 0 0 ∷ []
 one_byte [] some = absurd (omega (arith, some))

@@ -146,11 +146,11 @@ unfolding uses_escapes
 to_same Backspaces look = refl
 to_same (Escapes before) look = refl
 
-behind_same : (w : Way) (c : Cell) → uses_escapes (way_after w c) ≡ uses_escapes w
+after_same : (w : Way) (c : Cell) → uses_escapes (way_after w c) ≡ uses_escapes w
 unfolding uses_escapes
-behind_same w (Once b) = to_same w Plain
-behind_same Backspaces (Over a b) = refl
-behind_same (Escapes before) (Over a b) = refl
+after_same w (Once b) = to_same w Plain
+after_same Backspaces (Over a b) = refl
+after_same (Escapes before) (Over a b) = refl
 
 turning_by : (x : Bool) (before look : Look) → Marked true [] (if x then [] else closing before ++ opening look)
 turning_by true before look = text-nil true
@@ -245,7 +245,7 @@ text-drawn t w [] p = text-nil (uses_escapes w)
 text-drawn t w (c ∷ cs) p =
     let P : Bool → Type 0 = λ e. Marked e (characters_in t cs) (drawn_all t (way_after w c) cs) in
     text-append (uses_escapes w) _ (characters_in t cs) (drawn t w c) (drawn_all t (way_after w c) cs)
-    (drawn-text t w c (and_first (is_cell t c) (all_cells t cs) p)) (subst P (behind_same w c) (text-drawn t (way_after w c) cs (and_second (is_cell t c) (all_cells t cs) p)))
+    (drawn-text t w c (and_first (is_cell t c) (all_cells t cs) p)) (subst P (after_same w c) (text-drawn t (way_after w c) cs (and_second (is_cell t c) (all_cells t cs) p)))
 
 text-all : (t : Table) (w : Way) (cs : List Cell) → all_cells t cs ≡ true → Marked (uses_escapes w) (characters_in t cs) (printed t w cs)
 unfolding all_cells
@@ -253,7 +253,7 @@ text-all t w [] p = text-turning w Plain
 text-all t w (c ∷ cs) p =
     let P : Bool → Type 0 = λ e. Marked e (characters_in t cs) (printed t (way_after w c) cs) in
     text-append (uses_escapes w) _ (characters_in t cs) (drawn t w c) (printed t (way_after w c) cs)
-    (drawn-text t w c (and_first (is_cell t c) (all_cells t cs) p)) (subst P (behind_same w c) (text-all t (way_after w c) cs (and_second (is_cell t c) (all_cells t cs) p)))
+    (drawn-text t w c (and_first (is_cell t c) (all_cells t cs) p)) (subst P (after_same w c) (text-all t (way_after w c) cs (and_second (is_cell t c) (all_cells t cs) p)))
 
 -- ---- the cells of bytes
 
@@ -262,10 +262,10 @@ unfolding all_cells
 all-append t [] ds p q = q
 all-append t (c ∷ cs) ds p q = and_both (is_cell t c) (all_cells t (cs ++ ds)) (and_first (is_cell t c) (all_cells t cs) p) (all-append t cs ds (and_second (is_cell t c) (all_cells t cs) p) q)
 
-all-front : (t : Table) (cs ds : List Cell) → all_cells t (cs ++ ds) ≡ true → all_cells t cs ≡ true
+all-prefix : (t : Table) (cs ds : List Cell) → all_cells t (cs ++ ds) ≡ true → all_cells t cs ≡ true
 unfolding all_cells
-all-front t [] ds p = refl
-all-front t (c ∷ cs) ds p = and_both (is_cell t c) (all_cells t cs) (and_first (is_cell t c) (all_cells t (cs ++ ds)) p) (all-front t cs ds (and_second (is_cell t c) (all_cells t (cs ++ ds)) p))
+all-prefix t [] ds p = refl
+all-prefix t (c ∷ cs) ds p = and_both (is_cell t c) (all_cells t cs) (and_first (is_cell t c) (all_cells t (cs ++ ds)) p) (all-prefix t cs ds (and_second (is_cell t c) (all_cells t (cs ++ ds)) p))
 
 all_alone : (x : Bool) (t : Table) (b : ℕ) → all_cells t (if x then Once b ∷ [] else []) ≡ true
 unfolding all_cells is_cell
@@ -293,7 +293,7 @@ fed-text d e bs =
     let all = kept-all bs first in
     let t = fed first bs in
     let P : List Cell → Type 0 = λ cs. all_cells d cs ≡ true in
-    let valid = all-front d all.marks (cells d (half_read t.reader.half)) (subst P all.moves (all-cells d bs)) in
+    let valid = all-prefix d all.marks (cells d (half_read t.reader.half)) (subst P all.moves (all-cells d bs)) in
     let Q : Bool → Type 0 = λ x. Marked x (characters_in d all.marks) (drawn_all d first.way all.marks) in
     let R : List ℕ → Type 0 = λ xs. IsText e xs in
     subst R (sym all.all.bytes) (text_of e (characters_in d all.marks) (drawn_all d first.way all.marks) (subst Q (first_same e) (text-drawn d first.way all.marks valid)))

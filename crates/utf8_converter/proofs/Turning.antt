@@ -5,7 +5,7 @@ use Rattle.std.proofs.KnownBytes.{Appends-trans, Appends-nil}
 use Rattle.nr_units.specs.Sink.{AppendsPrefix}
 use Rattle.nr_units.specs.declared.source.Fault.{Fault}
 use Rattle.nr_units.proofs.Prefixes.{AppendsPrefix-after}
-use Rattle.document_stages.specs.Running.{Flushes, FrontAtErr}
+use Rattle.document_stages.specs.Running.{Flushes, PrefixAtErr}
 
 pub Flushes-none : (k : Option (List ℕ)) (p : List ℕ) → Flushes k k p p
 Flushes-none k p = record { out = []; went_out = Appends-nil k; all = refl }
@@ -23,6 +23,6 @@ pub Emits-ok : (x : Result (Unit {0}) Fault) (a b c : Option (List ℕ)) (p q le
 Emits-ok (Ok x) a b c p q left first last none = Flushes-all a c (p ++ q) left (Appends-trans a b c p q first last) none
 Emits-ok (Err e) a b c p q left first last none = tt
 
-pub Emits-err : (x : Result (Unit {0}) Fault) (a b c : Option (List ℕ)) (p q : List ℕ) → Appends a b p → OnErr x (AppendsPrefix b c q) → FrontAtErr x a c (p ++ q)
+pub Emits-err : (x : Result (Unit {0}) Fault) (a b c : Option (List ℕ)) (p q : List ℕ) → Appends a b p → OnErr x (AppendsPrefix b c q) → PrefixAtErr x a c (p ++ q)
 Emits-err (Ok x) a b c p q first last = tt
 Emits-err (Err e) a b c p q first last = AppendsPrefix-after a b c p q first last

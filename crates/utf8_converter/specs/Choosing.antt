@@ -124,12 +124,12 @@ Comes (Some q) bytes None = ⊥
 Comes (Some q) bytes (Some t) = q.bytes ≡ bytes ++ t.bytes
 
 -- some bytes came behind these
-pub record ComesBehind (old new : Option Supply) (before items : List ℕ) : Type 0 where
+pub record ComesAfter (old new : Option Supply) (before items : List ℕ) : Type 0 where
   pub bytes : List ℕ
   pub came : Comes old bytes new
   pub all : items ≡ before ++ bytes
 
 -- these bytes came first, as many as there is room for, or all
-pub record IsFront (old new : Option Supply) (capacity : ℕ) (items : List ℕ) : Type 0 where
+pub record IsPrefix (old new : Option Supply) (capacity : ℕ) (items : List ℕ) : Type 0 where
   pub came : Comes old items new
   pub whole : (length items ≡ capacity) ⊎ Ends old new

@@ -9,21 +9,21 @@ use Rattle.utf8_converter.specs.declared.reader.Half.TheVariants.{Nothing, Byte,
 use Rattle.utf8_converter.specs.declared.reader.Reader.{Reader}
 
 -- What is half read then, what goes out, and how many bytes were dropped.
-pub record Told : Type 0 where
+pub record Emitted : Type 0 where
   pub reader : Reader
   pub bytes : List ℕ
   pub strays : ℕ
 
-abbrev pub told : Reader → List ℕ → ℕ → Told
-told r bytes strays = record { reader = r; bytes = bytes; strays = strays }
+abbrev pub emitted : Reader → List ℕ → ℕ → Emitted
+emitted r bytes strays = record { reader = r; bytes = bytes; strays = strays }
 
 -- these bytes and so many strays, and then what comes
-abbrev pub behind : List ℕ → ℕ → Told → Told
-behind bytes strays t = record { reader = t.reader; bytes = bytes ++ t.bytes; strays = strays + t.strays }
+abbrev pub preceded : List ℕ → ℕ → Emitted → Emitted
+preceded bytes strays t = record { reader = t.reader; bytes = bytes ++ t.bytes; strays = strays + t.strays }
 
 -- first the one, then the other
-abbrev pub then_told : Told → (Reader → Told) → Told
-then_told t next = behind t.bytes t.strays (next t.reader)
+abbrev pub then_emitted : Emitted → (Reader → Emitted) → Emitted
+then_emitted t next = preceded t.bytes t.strays (next t.reader)
 
 -- nothing was read
 abbrev pub first_reader : Table → Bool → Reader
@@ -34,51 +34,51 @@ with_half h r = record r { half = h }
 
 -- ---- cells go out
 
-abbrev pub out : Cell → Reader → Told
-out c r = told (record r { way = way_after r.way c }) (drawn r.table r.way c) 0
+abbrev pub out : Cell → Reader → Emitted
+out c r = emitted (record r { way = way_after r.way c }) (drawn r.table r.way c) 0
 
 -- a byte goes out by itself, or is dropped
-abbrev pub put_alone : ℕ → Reader → Told
-put_alone b r = if goes_out r.table b then out (Once b) r else told r [] 1
+abbrev pub put_alone : ℕ → Reader → Emitted
+put_alone b r = if goes_out r.table b then out (Once b) r else emitted r [] 1
 
 abbrev pub turned : Look → Reader → Reader
 turned look r = record r { way = way_to r.way look }
 
 -- the look that is open ends
-abbrev pub shut : Reader → Told
-shut r = told (turned Plain r) (turning r.way Plain) 0
+abbrev pub shut : Reader → Emitted
+shut r = emitted (turned Plain r) (turning r.way Plain) 0
 
 -- ---- bytes are read
 
 -- nothing is half read: a byte that shows may still be struck over
-abbrev pub fresh : ℕ → Reader → Told
-fresh b r = if shows r.table b then told (with_half (Byte b) r) [] 0 else put_alone b r
+abbrev pub fresh : ℕ → Reader → Emitted
+fresh b r = if shows r.table b then emitted (with_half (Byte b) r) [] 0 else put_alone b r
 
 -- what is half read is no cell with what comes, and goes out; a backspace of it is dropped
-abbrev pub released : Half → Reader → Told
-released Nothing r = told r [] 0
+abbrev pub released : Half → Reader → Emitted
+released Nothing r = emitted r [] 0
 released (Byte a) r = put_alone a (with_half Nothing r)
-released (Backspaced a) r = behind [] 1 (put_alone a (with_half Nothing r))
+released (Backspaced a) r = preceded [] 1 (put_alone a (with_half Nothing r))
 
-abbrev pub released_and_fresh : ℕ → Reader → Told
-released_and_fresh b r = then_told (released r.half r) (λ s. fresh b s)
+abbrev pub released_and_fresh : ℕ → Reader → Emitted
+released_and_fresh b r = then_emitted (released r.half r) (λ s. fresh b s)
 
-abbrev pub read_after : Half → ℕ → Reader → Told
+abbrev pub read_after : Half → ℕ → Reader → Emitted
 read_after Nothing b r = fresh b r
 read_after (Byte a) b r =
-    if b == 8 then told (with_half (Backspaced a) r) [] 0 else released_and_fresh b r
+    if b == 8 then emitted (with_half (Backspaced a) r) [] 0 else released_and_fresh b r
 read_after (Backspaced a) b r =
     if strikes r.table a b then out (Over a b) (with_half Nothing r) else released_and_fresh b r
 
-abbrev pub read : ℕ → Reader → Told
+abbrev pub read : ℕ → Reader → Emitted
 read b r = read_after r.half b r
 
 -- the end comes
-abbrev pub ended : Reader → Told
-ended r = then_told (released r.half r) (λ s. shut s)
+abbrev pub ended : Reader → Emitted
+ended r = then_emitted (released r.half r) (λ s. shut s)
 
 -- ---- many bytes
 
-abbrev pub fed : Reader → List ℕ → Told
-fed r [] = told r [] 0
-fed r (b ∷ bs) = then_told (read b r) (λ s. fed s bs)
+abbrev pub fed : Reader → List ℕ → Emitted
+fed r [] = emitted r [] 0
+fed r (b ∷ bs) = then_emitted (read b r) (λ s. fed s bs)

@@ -9,13 +9,13 @@ may_stand b = nat_le 128 b || is_shown b
 
 -- a backspace between two of which the second may be struck over the first
 abbrev pub is_backed : ℕ → ℕ → ℕ → Bool
-is_backed before b behind =
-    (b == 8) && ((before == behind) || (before == code "_")) && nat_lt (code " ") behind
+is_backed before b following =
+    (b == 8) && ((before == following) || (before == code "_")) && nat_lt (code " ") following
 
 -- what may stand between these two: no backspace stands after one of another cell
 abbrev pub is_shaped : ℕ → ℕ → ℕ → Bool
-is_shaped before b behind =
-    (may_stand b || is_backed before b behind) && not ((before == behind) && (behind == 8))
+is_shaped before b following =
+    (may_stand b || is_backed before b following) && not ((before == following) && (following == 8))
 
 abbrev pub StandAll : ℕ → List ℕ → Type 0
 StandAll n bytes = (k : ℕ) → k < n → may_stand (get_or bytes k 0) ≡ true

@@ -37,7 +37,7 @@ abbrev pub made_of : Making → List ℕ
 made_of m = number_of m.table ∷ (if m.escapes then 1 else 0) ∷ m.failed ∷ counted_bytes m.begun
 
 -- what it tells: that and what came, whether what came last went on, and its failed calls
-pub record Told : Type 0 where
+pub record ShownSoFar : Type 0 where
   pub bytes : List ℕ
   pub is_passed_on : Bool
   pub failures : SinkFailures
@@ -51,10 +51,10 @@ Sends (Some xs) None waits text = ⊥
 Sends (Some xs) (Some ys) waits text = (ys ++ waits ≡ xs ++ text) × (length xs ≤ length ys)
 
 -- what it held and a prefix of a text
-abbrev pub Fronts : Option (List ℕ) → Option (List ℕ) → List ℕ → Type 0
-Fronts None held text = ⊤
-Fronts (Some xs) None text = ⊥
-Fronts (Some xs) (Some ys) text = (take (length ys) (xs ++ text) ≡ ys) × (length xs ≤ length ys)
+abbrev pub AddsPrefix : Option (List ℕ) → Option (List ℕ) → List ℕ → Type 0
+AddsPrefix None held text = ⊤
+AddsPrefix (Some xs) None text = ⊥
+AddsPrefix (Some xs) (Some ys) text = (take (length ys) (xs ++ text) ≡ ys) × (length xs ≤ length ys)
 
 -- ---- bytes are taken
 
@@ -89,7 +89,7 @@ pub record Stands (m : Making) (came : List ℕ) (held : Option (List ℕ)) (fai
 
 -- these bytes came, and the other sink failed once
 pub record Broke (m : Making) (came : List ℕ) (held : Option (List ℕ)) (failed : ℕ) : Type 0 where
-  pub out : Fronts m.begun held (fed (first_reader m.table m.escapes) came).bytes
+  pub out : AddsPrefix m.begun held (fed (first_reader m.table m.escapes) came).bytes
   pub one : failed ≡ next_count m.failed
 
 abbrev pub StandsOr : Bool → Making → List ℕ → Option (List ℕ) → ℕ → Reader → List ℕ → ℕ → Type 0

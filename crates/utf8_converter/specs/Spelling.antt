@@ -9,7 +9,7 @@ use Rattle.utf8_converter.specs.declared.reader.Way.TheVariants.{Backspaces, Esc
 use Rattle.utf8_converter.specs.declared.reader.Reader.{Reader}
 use Rattle.utf8_converter.specs.declared.spelling.Spelling.{Spelling}
 use Rattle.utf8_converter.specs.Cells.{goes_out, is_same, shows, text, turning}
-use Rattle.utf8_converter.specs.Reading.{Told, fed, put_alone, then_told, told, with_half}
+use Rattle.utf8_converter.specs.Reading.{Emitted, fed, put_alone, then_emitted, emitted, with_half}
 use Rattle.utf8_converter.specs.Shapes.{is_shaped, may_stand}
 
 -- What goes out of a byte in a cell that is whole: its text, and the backspace of a struck cell.
@@ -35,7 +35,7 @@ count_of s = get_or s 3 0 / 64
 
 -- these go out of a byte
 pub record IsSpelled (table : Table) (b : ℕ) (s : List ℕ) : Type 0 where
-  pub front : take (count_of s) s ≡ byte_of table b
+  pub prefix : take (count_of s) s ≡ byte_of table b
   pub count : length (byte_of table b) ≡ count_of s
   pub four : length s ≡ 4
   pub few : count_of s ≤ 3
@@ -85,17 +85,17 @@ abbrev pub rests : Reader → Bool
 rests r = rests_by r.half r.way
 
 -- a byte that is half read goes out
-abbrev pub let_go_by : Half → Told → Told
+abbrev pub let_go_by : Half → Emitted → Emitted
 let_go_by Nothing t = t
-let_go_by (Byte b) t = then_told t (λ r. put_alone b (with_half Nothing r))
+let_go_by (Byte b) t = then_emitted t (λ r. put_alone b (with_half Nothing r))
 let_go_by (Backspaced b) t = t
 
-abbrev pub let_go : Told → Told
+abbrev pub let_go : Emitted → Emitted
 let_go t = let_go_by t.reader.half t
 
 -- These come of bytes that are whole cells: a byte that is half read after them is none with what comes.
 pub record Makes (r s : Reader) (bytes out : List ℕ) : Type 0 where
-  pub all : let_go (fed r bytes) ≡ told s out 0
+  pub all : let_go (fed r bytes) ≡ emitted s out 0
   pub rested : rests (fed r bytes).reader ≡ true
   pub few : length out + owed s.way ≤ 4 * length bytes + owed r.way
 
@@ -137,11 +137,11 @@ pub record Goes (r s : Reader) (bytes : List ℕ) (taken : ℕ) (old : List ℕ)
 
 -- so many bytes were read, and what they come to stands at the front of a room
 pub record Reads (r s : Reader) (bytes : List ℕ) (taken : ℕ) (room : List ℕ) (end : ℕ) : Type 0 where
-  pub all : fed r (take taken bytes) ≡ told s (take end room) 0
+  pub all : fed r (take taken bytes) ≡ emitted s (take end room) 0
   pub within : taken ≤ length bytes
 
 -- what stands at the front of a room is what was told
-pub record Fills (t : Told) (s : Reader) (old : List ℕ) (from : ℕ) (new : List ℕ) (end strays : ℕ) : Type 0 where
+pub record Fills (t : Emitted) (s : Reader) (old : List ℕ) (from : ℕ) (new : List ℕ) (end strays : ℕ) : Type 0 where
   pub reader : s ≡ t.reader
   pub put : Puts old from new end t.bytes
   pub made : strays ≡ t.strays

@@ -181,7 +181,7 @@ fn chosen(counts: &[u32]) -> Table
 
 /// Takes bytes at hand, as many as there is room for, and tells whether there was one.
 fn take_at_hand<R: Source>(input: &mut R, page: &mut SliceVec<'_, u8>) -> bool
-    ensures took { result ≡ true → specs.ComesBehind (R.supply input.old) (R.supply input.new) page.old.items
+    ensures took { result ≡ true → specs.ComesAfter (R.supply input.old) (R.supply input.new) page.old.items
         page.new.items }
     ensures some { result ≡ true → length page.old.items < length page.new.items }
     ensures none { result ≡ false → (input.new ≡ input.old) × (page.new.items ≡ page.old.items) }
@@ -201,7 +201,7 @@ fn take_at_hand<R: Source>(input: &mut R, page: &mut SliceVec<'_, u8>) -> bool
 /// Takes bytes at hand, or the next one. At the end there is none.
 fn take_more<R: Source>(input: &mut R, page: &mut SliceVec<'_, u8>) -> Result<bool, Fault>
     requires { length page.old.items < page.old.capacity }
-    ensures took { OnOk result (specs.ComesBehind (R.supply input.old) (R.supply input.new) page.old.items
+    ensures took { OnOk result (specs.ComesAfter (R.supply input.old) (R.supply input.new) page.old.items
         page.new.items) }
     ensures some { result ≡ Ok true → length page.old.items < length page.new.items }
     ensures ends { result ≡ Ok false → Ends (R.supply input.old) (R.supply input.new) }
@@ -222,9 +222,9 @@ fn take_more<R: Source>(input: &mut R, page: &mut SliceVec<'_, u8>) -> Result<bo
 }
 
 /// Takes what the input gives first, as much as there is room for.
-fn read_front<R: Source>(input: &mut R, page: &mut SliceVec<'_, u8>) -> Result<(), Fault>
+fn read_prefix<R: Source>(input: &mut R, page: &mut SliceVec<'_, u8>) -> Result<(), Fault>
     requires { page.old.items ≡ [] }
-    ensures front { OnOk result (specs.IsFront (R.supply input.old) (R.supply input.new) page.new.capacity
+    ensures prefix { OnOk result (specs.IsPrefix (R.supply input.old) (R.supply input.new) page.new.capacity
         page.new.items) }
     ensures failures { R.failures input.new ≡ counted (R.failures input.old) result }
     ensures room { page.new.capacity ≡ page.old.capacity }
@@ -251,8 +251,8 @@ pub fn choose<R: Source>(input: &mut R, page: &mut [u8], counts: &mut [u32]) -> 
     // An error is told where a call of the source failed.
     ensures failures { R.failures input.new ≡ counted (R.failures input.old) result }
 {
-    let mut front = SliceVec::over(page);
-    read_front(input, &mut front)?;
-    count_all(front.as_slice(), counts);
+    let mut prefix = SliceVec::over(page);
+    read_prefix(input, &mut prefix)?;
+    count_all(prefix.as_slice(), counts);
     Ok(chosen(counts))
 }

@@ -1,7 +1,7 @@
 //! Cells go out, many at once.
 ghost use Rattle.std.specs.Prelude.{◌≡◌, ◌+◌, ◌*◌, ◌<◌, ◌≤◌, length, take, true, IsTrue};
 ghost use Rattle.utf8_converter.specs.declared.reader.Half.TheVariants.{Nothing};
-ghost use Rattle.utf8_converter.specs.Reading.{fed, told};
+ghost use Rattle.utf8_converter.specs.Reading.{fed, emitted};
 ghost use Rattle.utf8_converter.specs.Spelling as specs;
 
 use super::cells::Reached;

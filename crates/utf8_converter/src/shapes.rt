@@ -59,12 +59,12 @@ pub(crate) fn are_low(piece: &[u8; 8]) -> bool
 }
 
 /// Whether a byte may stand between these two: a backspace only in a struck cell, and none two places after another.
-fn is_shaped(before: u8, byte: u8, behind: u8) -> bool
-    ensures { result ≡ specs.is_shaped before byte behind }
+fn is_shaped(before: u8, byte: u8, following: u8) -> bool
+    ensures { result ≡ specs.is_shaped before byte following }
 {
-    let same = before == behind;
-    let struck = (byte == b'\x08') & (same | (before == b'_')) & (behind > b' ');
-    (may_stand(byte) | struck) & !(same & (behind == b'\x08'))
+    let same = before == following;
+    let struck = (byte == b'\x08') & (same | (before == b'_')) & (following > b' ');
+    (may_stand(byte) | struck) & !(same & (following == b'\x08'))
 }
 
 /// Whether each of these bytes but the last may stand where it does.

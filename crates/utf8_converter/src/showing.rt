@@ -44,9 +44,9 @@ pub struct Shown<'a, W: Sink> {
 
 impl<'a, W: Sink> Model for Shown<'a, W> {
     ghost use Rattle.std.specs.Prelude.{◌++◌};
-    ghost use Rattle.utf8_converter.specs.Showing.{Told, made_of};
+    ghost use Rattle.utf8_converter.specs.Showing.{ShownSoFar, made_of};
 
-    ghost Value = { Told };
+    ghost Value = { ShownSoFar };
 
     ghost view = { λ s. record {
       bytes = made_of (record {

@@ -2,7 +2,7 @@
 ghost use Rattle.std.specs.Prelude.{◌≡◌, ◌+◌, ◌<◌, ◌≤◌, [], ◌++◌, length, IfOk, OnOk};
 ghost use Rattle.std.specs.Io.KnownBytes.{Appends};
 ghost use Rattle.nr_units.specs.Failures.{put_counted};
-ghost use Rattle.document_stages.specs.Running.{Flushes, FrontAtErr, at_most};
+ghost use Rattle.document_stages.specs.Running.{Flushes, PrefixAtErr, at_most};
 ghost use Rattle.utf8_converter.specs.Reading.{ended, first_reader};
 ghost use Rattle.utf8_converter.specs.Showing as specs;
 
@@ -22,7 +22,7 @@ pub(crate) struct Waiting<'a> {
 /// All that is pending goes out.
 fn put_pending<W: Sink>(out: &mut SliceVec<'_, u8>, output: &mut W) -> Result<(), Fault>
     ensures ok { OnOk result (Appends (W.held output.old) (W.held output.new) out.old.items) }
-    ensures err { FrontAtErr result (W.held output.old) (W.held output.new) out.old.items }
+    ensures err { PrefixAtErr result (W.held output.old) (W.held output.new) out.old.items }
     ensures empty { OnOk result (out.new.items ≡ []) }
     ensures failures { W.failures output.new ≡ put_counted (W.failures output.old) result }
     ensures room { out.new.capacity ≡ out.old.capacity }
@@ -36,7 +36,7 @@ fn put_pending<W: Sink>(out: &mut SliceVec<'_, u8>, output: &mut W) -> Result<()
 fn emit<W: Sink>(bytes: &[u8], out: &mut SliceVec<'_, u8>, output: &mut W) -> Result<(), Fault>
     ensures ok { OnOk result (Flushes (W.held output.old) (W.held output.new) (out.old.items ++ bytes.now)
         out.new.items) }
-    ensures err { FrontAtErr result (W.held output.old) (W.held output.new) (out.old.items ++ bytes.now) }
+    ensures err { PrefixAtErr result (W.held output.old) (W.held output.new) (out.old.items ++ bytes.now) }
     ensures failures { W.failures output.new ≡ put_counted (W.failures output.old) result }
 {
     if out.capacity() - out.len() >= bytes.len() {
@@ -102,7 +102,7 @@ impl<'a> Waiting<'a> {
     pub(crate) fn close<W: Sink>(&mut self, output: &mut W) -> Result<u64, Fault>
         ensures ok { OnOk result (Appends (W.held output.old) (W.held output.new)
             (self.old.out.items ++ (ended self.old.turner.reader).bytes)) }
-        ensures err { FrontAtErr result (W.held output.old) (W.held output.new)
+        ensures err { PrefixAtErr result (W.held output.old) (W.held output.new)
             (self.old.out.items ++ (ended self.old.turner.reader).bytes) }
         ensures strays { IfOk result (λ n. n ≡ at_most (self.old.turner.strays + (ended self.old.turner.reader).strays)) }
         ensures failures { W.failures output.new ≡ put_counted (W.failures output.old) result }

@@ -13,7 +13,7 @@ use Rattle.utf8_own_characters.specs.declared.table.Code.TheVariants.{One, Two}
 use Rattle.utf8_own_characters.specs.Cluster as of
 use Rattle.utf8_own_characters.specs.Cluster.{single, blank, is_ascii, is_wide, is_two, columns}
 use Rattle.utf8_own_characters.specs.Table.{Characters, Good, leads, trails, first_lead, first_trail, is_lead, is_trail, place_of, code_at, code, bytes_in, bytes, covers, is_none}
-use Rattle.utf8_own_characters.specs.Reading.{shows, strays, waits, shows_cell, alone, begun, shows_pair, both, behind_blank, read, list_of, text_of, end_of, decode_from, decode}
+use Rattle.utf8_own_characters.specs.Reading.{shows, strays, waits, shows_cell, alone, begun, shows_pair, both, after_blank, read, list_of, text_of, end_of, decode_from, decode}
 use Rattle.utf8_own_characters.specs.Laws.{Inverse, InverseWhole, OneWay, ColumnsAreBytes, ColumnsStay, Apart, HalvesAreApart}
 use Rattle.utf8_own_characters.proofs.Tests.{no_some, and_first, and_second, and_true, and_false, and_not, not_both, if_not, if_so, lt_so, lt_not, le_so, le_not, lt_is, lt_is_not, le_is}
 use Rattle.utf8_own_characters.proofs.Places.{same_cluster, not_none, stands_there, narrow_there, wide_there, Halved, halved}
@@ -89,7 +89,7 @@ wide_back t c p rest good e =
     let place : (lead - first_lead t) * trails t + (trail - first_trail t) ≡ p =
     pair_place (first_lead t) (first_trail t) p (p / trails t) (p % trails t) (trails t) h.whole in
     let second : read t (Some lead) trail ≡ shows c =
-    if_so (is_trail t trail) (both t lead trail) (behind_blank (begun t trail)) (trail_is t (p % trails t))
+    if_so (is_trail t trail) (both t lead trail) (after_blank (begun t trail)) (trail_is t (p % trails t))
     ∙ ap (λ (k : ℕ). shows_pair (slice_get t.wide k)) place ∙ ap shows_pair there in
     decode_step t None lead (trail ∷ rest) (waits lead) first ∙ decode_step t (Some lead) trail rest (shows c) second
 
@@ -192,10 +192,10 @@ taken_waits b = refl
 plus_one : (a b s w : ℕ) → a ≡ b + s → b ≡ 1 → a + w ≡ 1 + (s + w)
 plus_one a b s w e f = omega arith
 
-taken_behind : (r : Read) → taken (behind_blank r) ≡ 1 + taken r
+taken_after : (r : Read) → taken (after_blank r) ≡ 1 + taken r
 unfolding taken
-taken_behind r =
-    let more : text_of (behind_blank r) ≡ blank ∷ text_of r = ap (λ (k : ℕ). replicate k blank ++ list_of r.cluster) (add-one r.blanks) in
+taken_after r =
+    let more : text_of (after_blank r) ≡ blank ∷ text_of r = ap (λ (k : ℕ). replicate k blank ++ list_of r.cluster) (add-one r.blanks) in
     ap (λ (k : List Cluster). sum_by columns k + waiting r.held) more
     ∙ plus_one (sum_by columns (blank ∷ text_of r)) (columns blank) (sum_by columns (text_of r)) (waiting r.held)
     (sum_by-cons columns blank (text_of r)) blank_column
@@ -224,10 +224,10 @@ taken_pair : (t : Characters) (i : ℕ) (o : Option Cluster) → slice_get t.wid
 taken_pair t i None e good = taken_strays
 taken_pair t i (Some c) e good = taken_shows c ∙ wide_columns c (wide_there t.wide i c good.wide e)
 
-taken_second : (t : Characters) (lead b : ℕ) (x : Bool) → Good t → taken (if x then both t lead b else behind_blank (begun t b)) ≡ 2
+taken_second : (t : Characters) (lead b : ℕ) (x : Bool) → Good t → taken (if x then both t lead b else after_blank (begun t b)) ≡ 2
 taken_second t lead b true good =
     let i = (lead - first_lead t) * trails t + (b - first_trail t) in taken_pair t i (slice_get t.wide i) refl good
-taken_second t lead b false good = taken_behind (begun t b) ∙ ap (λ (k : ℕ). 1 + k) (taken_begun t b good)
+taken_second t lead b false good = taken_after (begun t b) ∙ ap (λ (k : ℕ). 1 + k) (taken_begun t b good)
 
 taken_read : (t : Characters) (held : Option ℕ) (b : ℕ) → Good t → taken (read t held b) ≡ waiting held + 1
 unfolding waiting

@@ -37,12 +37,12 @@ abbrev pub both : Characters → ℕ → ℕ → Read
 both t lead trail = shows_pair (slice_get t.wide ((lead - first_lead t) * trails t + (trail - first_trail t)))
 
 -- where a lead waits that is half laid over, a blank keeps its column
-abbrev pub behind_blank : Read → Read
-behind_blank r = record r { blanks = r.blanks + 1 }
+abbrev pub after_blank : Read → Read
+after_blank r = record r { blanks = r.blanks + 1 }
 
 abbrev pub read : Characters → Option ℕ → ℕ → Read
 read t None b = begun t b
-read t (Some lead) b = if is_trail t b then both t lead b else behind_blank (begun t b)
+read t (Some lead) b = if is_trail t b then both t lead b else after_blank (begun t b)
 
 abbrev pub list_of : Option Cluster → List Cluster
 list_of None = []

@@ -53,7 +53,7 @@ fn add(
     requires narrow { 128 ≤ narrow.old.capacity }
     requires wide { 4096 ≤ wide.old.capacity }
     ensures cells { specs.choice narrow.new.items wide.new.items ≡ specs.added (specs.choice narrow.old.items wide.old.items) cluster }
-    ensures told { result ≡ specs.fits (specs.with_cluster (specs.choice narrow.old.items wide.old.items) cluster) }
+    ensures reported { result ≡ specs.fits (specs.with_cluster (specs.choice narrow.old.items wide.old.items) cluster) }
     ensures narrow { narrow.new.capacity ≡ narrow.old.capacity }
     ensures wide { wide.new.capacity ≡ wide.old.capacity }
 {
@@ -80,17 +80,17 @@ pub fn choose(
     requires narrow { 128 ≤ narrow.old.capacity }
     requires wide { 4096 ≤ wide.old.capacity }
     ensures cells { specs.choice narrow.new.items wide.new.items ≡ chosen nothing counts.now }
-    ensures told { result ≡ length (left_out nothing counts.now) }
+    ensures reported { result ≡ length (left_out nothing counts.now) }
 {
     narrow.clear();
     wide.clear();
-    let mut told = 0;
+    let mut reported = 0;
     for count in counts {
         if !add(narrow, wide, count.cluster) {
-            told += 1;
+            reported += 1;
         }
     }
-    told
+    reported
 }
 
 impl<'a> Table<'a> {

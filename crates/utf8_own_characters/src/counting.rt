@@ -110,7 +110,7 @@ fn raise(counts: &mut SliceVec<'_, Count>, place: usize)
 fn add(counts: &mut SliceVec<'_, Count>, slots: &mut [u16], cluster: &Cluster) -> bool
     requires { count_from 0 counts.old.items cluster.now ≡ None }
     ensures items { counts.new.items ≡ counted_within counts.old.capacity counts.old.items cluster.now }
-    ensures told { result ≡ (is_counted counts.old.items cluster.now || nat_lt (length counts.old.items) counts.old.capacity) }
+    ensures reported { result ≡ (is_counted counts.old.items cluster.now || nat_lt (length counts.old.items) counts.old.capacity) }
     ensures room { counts.new.capacity ≡ counts.old.capacity }
 {
     if counts.len() >= counts.capacity() {
@@ -130,7 +130,7 @@ pub fn count_cluster(counts: &mut SliceVec<'_, Count>, slots: &mut [u16], cluste
     requires { is_once counts.old.items ≡ true }
     ensures items { counts.new.items ≡ counted_within counts.old.capacity counts.old.items cluster.now }
     ensures once { is_once counts.new.items ≡ true }
-    ensures told { result ≡ (is_counted counts.old.items cluster.now || nat_lt (length counts.old.items) counts.old.capacity) }
+    ensures reported { result ≡ (is_counted counts.old.items cluster.now || nat_lt (length counts.old.items) counts.old.capacity) }
     ensures room { counts.new.capacity ≡ counts.old.capacity }
 {
     let found = place_in(counts.as_slice(), slots, cluster);

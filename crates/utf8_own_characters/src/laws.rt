@@ -10,7 +10,7 @@ ghost use Rattle.utf8_own_characters.specs.Laws.{Inverse, InverseWhole, OneWay, 
 /// Proved: The bytes of clusters that have a code are read back as these clusters, whatever comes after, and no two
 /// texts have the same bytes. (`bytes_are_read_back`, `rows_are_read_in_one_way`)
 pub fn bytes_are_read_back()
-    ensures behind { Inverse }
+    ensures after { Inverse }
     ensures whole { InverseWhole }
 {}
 

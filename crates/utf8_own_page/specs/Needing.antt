@@ -39,8 +39,8 @@ abbrev pub may_need_own : List ℕ → Bool
 may_need_own page = is_beyond_ascii (take 65536 page)
 
 -- and its first MiB which characters it has
-abbrev pub front_of : List ℕ → List ℕ
-front_of page = take 1048576 page
+abbrev pub prefix_of : List ℕ → List ℕ
+prefix_of page = take 1048576 page
 
 -- a fixed table has characters without marks
 abbrev pub has : fixed.Table → Cluster → Bool

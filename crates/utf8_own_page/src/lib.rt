@@ -11,5 +11,5 @@ mod needing;
 mod signs;
 
 pub use cells::{Cells, counted};
-pub use needing::{MORE_LOOKED_AT, front_of, has_all, lacks, may_need_own};
+pub use needing::{MORE_LOOKED_AT, has_all, lacks, may_need_own, prefix_of};
 pub use signs::signs_of;

@@ -81,8 +81,8 @@ pub fn may_need_own(page: &[u8]) -> bool
 }
 
 /// What is looked at of a page that may need a table of its own: its first MiB.
-pub fn front_of(page: &[u8]) -> &[u8]
-    ensures { result.now ≡ specs.front_of page.now }
+pub fn prefix_of(page: &[u8]) -> &[u8]
+    ensures { result.now ≡ specs.prefix_of page.now }
 {
     first_of(page, MORE_LOOKED_AT)
 }

@@ -6,15 +6,15 @@ use Rattle.std.specs.Io.KnownBytes.{Appends}
 use Rattle.nr_units.specs.Failures.{SinkFailures, next_count, put_counted}
 use Rattle.nr_units.specs.Sink.{AppendsPrefix}
 use Rattle.nr_units.specs.declared.source.Fault.{Fault}
-use Rattle.document_stages.specs.Running.{FrontAtErr}
-use Rattle.utf8_converter.specs.Showing.{Fronts, Sends, counted_bytes}
-use Rattle.utf8_converter.proofs.Passing.{Fronts-Appends, Fronts-more, Fronts-of, Sends-all}
+use Rattle.document_stages.specs.Running.{PrefixAtErr}
+use Rattle.utf8_converter.specs.Showing.{AddsPrefix, Sends, counted_bytes}
+use Rattle.utf8_converter.proofs.Passing.{AddsPrefix-Appends, AddsPrefix-more, AddsPrefix-of, Sends-all}
 use Rattle.utf8_own_characters.specs.Table.{Characters}
 use Rattle.utf8_own_characters.specs.declared.cluster.Cluster.{Cluster}
 use Rattle.utf8_own_sink.specs.declared.cells.Reader.{Reader}
 use Rattle.utf8_own_sink.specs.Cells.{converted}
 use Rattle.utf8_own_sink.specs.Reading.{ended, fed, first}
-use Rattle.utf8_own_sink.specs.Showing.{Broke, Finishes, IsCutOff, IsShown, Making, Stands, StandsOr, listed_before, told}
+use Rattle.utf8_own_sink.specs.Showing.{Broke, Finishes, IsCutOff, IsShown, Making, Stands, StandsOr, listed_before, emitted}
 use Rattle.utf8_own_sink.proofs.Going.{converted-fed}
 use Rattle.utf8_own_sink.proofs.Passing.{Broke-more}
 
@@ -31,10 +31,10 @@ Sends-prop None held waits text = hlevel props
 Sends-prop (Some xs) None waits text = hlevel props
 Sends-prop (Some xs) (Some ys) waits text = hlevel props
 
-Fronts-prop : (begun held : Option (List ℕ)) (text : List ℕ) → IsProp (Fronts begun held text)
-Fronts-prop None held text = hlevel props
-Fronts-prop (Some xs) None text = hlevel props
-Fronts-prop (Some xs) (Some ys) text = hlevel props
+AddsPrefix-prop : (begun held : Option (List ℕ)) (text : List ℕ) → IsProp (AddsPrefix begun held text)
+AddsPrefix-prop None held text = hlevel props
+AddsPrefix-prop (Some xs) None text = hlevel props
+AddsPrefix-prop (Some xs) (Some ys) text = hlevel props
 
 list_prop : (xs ys : List ℕ) → IsProp (xs ≡ ys)
 list_prop xs ys = hlevel props
@@ -55,7 +55,7 @@ broke : (m : Making) (came : List ℕ) (held : Option (List ℕ)) (failed : ℕ)
 broke m came held failed br =
     let F = fed m.table (first m.escapes) came in
     record {
-      out = ∥∥₁_elim br (Fronts-prop m.begun held F.bytes) (λ b. b.out);
+      out = ∥∥₁_elim br (AddsPrefix-prop m.begun held F.bytes) (λ b. b.out);
       one = ∥∥₁_elim br (number_prop failed (next_count m.failed)) (λ b. b.one);
     }
 
@@ -67,12 +67,12 @@ Shown-whole m came a b f g r p st went same =
     record { went_out = subst P whole (Sends-all m.begun a b p F.bytes (ended m.table r) st.out went); none = same ∙ st.none }
 
 Shown-cut : (m : Making) (came : List ℕ) (a b : Option (List ℕ)) (f g : ℕ) (r : Reader) (p : List ℕ) → Ready m came a f r p → AppendsPrefix a b (p ++ ended m.table r) → g ≡ next_count f → IsCutOff m came b g
-Shown-cut m came a b f g r p st front one =
+Shown-cut m came a b f g r p st prefix one =
     let F = fed m.table (first m.escapes) came in
     let whole : F.bytes ++ ended m.table r ≡ converted m.table m.escapes came = ap (λ (zs : List ℕ). F.bytes ++ zs) st.rest ∙ sym (converted-fed m.table m.escapes came) in
     let P : List ℕ → Type 0 = λ zs. AppendsPrefix m.begun b zs in
     record {
-      went_out = subst P whole (Fronts-Appends m.begun b (F.bytes ++ ended m.table r) (Fronts-of m.begun a b p F.bytes (ended m.table r) st.out front));
+      went_out = subst P whole (AddsPrefix-Appends m.begun b (F.bytes ++ ended m.table r) (AddsPrefix-of m.begun a b p F.bytes (ended m.table r) st.out prefix));
       one = one ∙ ap next_count st.none;
     }
 
@@ -82,7 +82,7 @@ Shown-broke m came a f br =
     let P : List ℕ → Type 0 = λ zs. AppendsPrefix m.begun a zs in
     record {
       went_out = subst P (sym (converted-fed m.table m.escapes came))
-          (Fronts-Appends m.begun a (F.bytes ++ ended m.table F.reader) (Fronts-more m.begun a F.bytes (ended m.table F.reader) br.out));
+          (AddsPrefix-Appends m.begun a (F.bytes ++ ended m.table F.reader) (AddsPrefix-more m.begun a F.bytes (ended m.table F.reader) br.out));
       one = br.one;
     }
 
@@ -92,8 +92,8 @@ listed-append : (cs : List Cluster) (xs ys : List ℕ) → listed_before cs (xs 
 listed-append [] xs ys = refl
 listed-append (c ∷ cs) xs ys = ap (λ (zs : List ℕ). 1 ∷ c.letter ∷ c.first_mark ∷ c.second_mark ∷ c.third_mark ∷ zs) (listed-append cs xs ys)
 
-pub told-append : (m : Making) (xs ys : List ℕ) → told m (xs ++ ys) ≡ told m xs ++ ys
-told-append m xs ys =
+pub emitted-append : (m : Making) (xs ys : List ℕ) → emitted m (xs ++ ys) ≡ emitted m xs ++ ys
+emitted-append m xs ys =
     let head : List ℕ → List ℕ = λ zs. m.table.halves ∷ (if m.escapes then 1 else 0) ∷ m.failed ∷ zs in
     ap (λ (zs : List ℕ). head (listed_before m.table.narrow (listed_before m.table.wide zs))) (sym (append_assoc (counted_bytes m.begun) xs ys))
     ∙ ap (λ (zs : List ℕ). head (listed_before m.table.narrow zs)) (listed-append m.table.wide (counted_bytes m.begun ++ xs) ys)
@@ -136,7 +136,7 @@ append_same (v ∷ vs) (w ∷ ws) xs ys l e =
     let head : v ≡ w = cc in
     let tail : vs ++ xs ≡ ws ++ ys = cc in
     let both = append_same vs ws xs ys (omega (arith, l)) tail in
-    let front : vs ≡ ws = both.0 in
+    let prefix : vs ≡ ws = both.0 in
     (cc, both.1)
 
 record SameBytes (a b : Option (List ℕ)) (xs ys : List ℕ) : Type 0 where
@@ -167,7 +167,7 @@ is_one : (e : Bool) → ((if e then 1 else 0) == 1) ≡ e
 is_one true = refl
 is_one false = refl
 
-same-making : (m n : Making) (xs ys : List ℕ) → told m xs ≡ told n ys → SameMaking m n xs ys
+same-making : (m n : Making) (xs ys : List ℕ) → emitted m xs ≡ emitted n ys → SameMaking m n xs ys
 same-making m n xs ys e =
     let halves : m.table.halves ≡ n.table.halves = cc in
     let one : ℕ = if m.escapes then 1 else 0 in
@@ -191,7 +191,7 @@ broke-more : (m : Making) (came more : List ℕ) (a : Option (List ℕ)) (f : �
 broke-more m came more a f br = let cut = Shown-broke m (came ++ more) a f (Broke-more m came more a f br) in cut.went_out
 
 pub ends-broken : (z : Bool) (m n : Making) (came more value : List ℕ) (a : Option (List ℕ)) (f : ℕ) (r : Reader) (p : List ℕ) → z ≡ true → ∥ StandsOr z m came a f r p ∥₁
-    → told m came ≡ value → value ≡ told n more → IsCutOff n more a f
+    → emitted m came ≡ value → value ≡ emitted n more → IsCutOff n more a f
 ends-broken false m n came more value a f r p broken st is says = absurd (let never : false ≡ true = broken in cc)
 ends-broken true m n came more value a f r p broken st is says =
     let same = same-making m n came more (is ∙ says) in
@@ -199,26 +199,26 @@ ends-broken true m n came more value a f r p broken st is says =
     let Q : List ℕ → Type 0 = λ zs. IsCutOff m zs a f in
     subst P same.making_is (subst Q same.rest (Shown-broke m came a f (broke m came a f st)))
 
-pub ends-short : (z : Bool) (m n : Making) (came front more value : List ℕ) (a : Option (List ℕ)) (f : ℕ) (r : Reader) (p : List ℕ) → z ≡ true → ∥ StandsOr z m came a f r p ∥₁
-    → told m came ≡ value → value ≡ told n front → AppendsPrefix n.begun a (converted n.table n.escapes (front ++ more))
-ends-short false m n came front more value a f r p broken st is says = absurd (let never : false ≡ true = broken in cc)
-ends-short true m n came front more value a f r p broken st is says =
-    let same = same-making m n came front (is ∙ says) in
-    let P : Making → Type 0 = λ x. AppendsPrefix x.begun a (converted x.table x.escapes (front ++ more)) in
+pub ends-short : (z : Bool) (m n : Making) (came prefix more value : List ℕ) (a : Option (List ℕ)) (f : ℕ) (r : Reader) (p : List ℕ) → z ≡ true → ∥ StandsOr z m came a f r p ∥₁
+    → emitted m came ≡ value → value ≡ emitted n prefix → AppendsPrefix n.begun a (converted n.table n.escapes (prefix ++ more))
+ends-short false m n came prefix more value a f r p broken st is says = absurd (let never : false ≡ true = broken in cc)
+ends-short true m n came prefix more value a f r p broken st is says =
+    let same = same-making m n came prefix (is ∙ says) in
+    let P : Making → Type 0 = λ x. AppendsPrefix x.begun a (converted x.table x.escapes (prefix ++ more)) in
     let Q : List ℕ → Type 0 = λ zs. AppendsPrefix m.begun a (converted m.table m.escapes (zs ++ more)) in
     subst P same.making_is (subst Q same.rest (broke-more m came more a f (broke m came a f st)))
 
 finishes : (m : Making) (came : List ℕ) (a b : Option (List ℕ)) (f g : SinkFailures) (r : Reader) (p : List ℕ) (x : Result (Unit {0}) Fault) → Ready m came a f.puts r p
-    → OnOk x (Appends a b (p ++ ended m.table r)) → FrontAtErr x a b (p ++ ended m.table r) → g ≡ put_counted f x → Finishes m came b g.puts x
-finishes m came a b f g r p (Ok n) st went front failed = Shown-whole m came a b f.puts g.puts r p st went (ap (λ (q : SinkFailures). q.puts) failed)
-finishes m came a b f g r p (Err e) st went front failed = Shown-cut m came a b f.puts g.puts r p st front (ap (λ (q : SinkFailures). q.puts) failed)
+    → OnOk x (Appends a b (p ++ ended m.table r)) → PrefixAtErr x a b (p ++ ended m.table r) → g ≡ put_counted f x → Finishes m came b g.puts x
+finishes m came a b f g r p (Ok n) st went prefix failed = Shown-whole m came a b f.puts g.puts r p st went (ap (λ (q : SinkFailures). q.puts) failed)
+finishes m came a b f g r p (Err e) st went prefix failed = Shown-cut m came a b f.puts g.puts r p st prefix (ap (λ (q : SinkFailures). q.puts) failed)
 
 pub ends : (z : Bool) (m n : Making) (came more value : List ℕ) (a b : Option (List ℕ)) (f g : SinkFailures) (r : Reader) (p : List ℕ) (x : Result (Unit {0}) Fault) → z ≡ false
-    → ∥ StandsOr z m came a f.puts r p ∥₁ → told m came ≡ value → value ≡ told n more
-    → OnOk x (Appends a b (p ++ ended m.table r)) → FrontAtErr x a b (p ++ ended m.table r) → g ≡ put_counted f x → Finishes n more b g.puts x
-ends true m n came more value a b f g r p x whole st is says went front failed = absurd (let never : true ≡ false = whole in cc)
-ends false m n came more value a b f g r p x whole st is says went front failed =
+    → ∥ StandsOr z m came a f.puts r p ∥₁ → emitted m came ≡ value → value ≡ emitted n more
+    → OnOk x (Appends a b (p ++ ended m.table r)) → PrefixAtErr x a b (p ++ ended m.table r) → g ≡ put_counted f x → Finishes n more b g.puts x
+ends true m n came more value a b f g r p x whole st is says went prefix failed = absurd (let never : true ≡ false = whole in cc)
+ends false m n came more value a b f g r p x whole st is says went prefix failed =
     let same = same-making m n came more (is ∙ says) in
     let P : Making → Type 0 = λ y. Finishes y more b g.puts x in
     let Q : List ℕ → Type 0 = λ zs. Finishes m zs b g.puts x in
-    subst P same.making_is (subst Q same.rest (finishes m came a b f g r p x (ready m came a f.puts r p st) went front failed))
+    subst P same.making_is (subst Q same.rest (finishes m came a b f g r p x (ready m came a f.puts r p st) went prefix failed))

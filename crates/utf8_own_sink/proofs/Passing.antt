@@ -10,12 +10,12 @@ use Rattle.nr_units.specs.Failures.{SinkFailures, next_count, put_counted}
 use Rattle.nr_units.specs.Sink.{AppendsPrefix}
 use Rattle.nr_units.specs.declared.source.Fault.{Fault}
 use Rattle.nr_units.proofs.Prefixes.{AppendsPrefix-append}
-use Rattle.document_stages.specs.Running.{Flushes, FrontAtErr}
-use Rattle.utf8_converter.specs.Showing.{Fronts, Sends}
-use Rattle.utf8_converter.proofs.Passing.{Flushes-then, Fronts-more, Fronts-of, Fronts-then, Sends-kept, Sends-on, puts-failed, puts-went}
+use Rattle.document_stages.specs.Running.{Flushes, PrefixAtErr}
+use Rattle.utf8_converter.specs.Showing.{AddsPrefix, Sends}
+use Rattle.utf8_converter.proofs.Passing.{Flushes-then, AddsPrefix-more, AddsPrefix-of, AddsPrefix-then, Sends-kept, Sends-on, puts-failed, puts-went}
 use Rattle.utf8_own_characters.specs.Table.{Characters}
 use Rattle.utf8_own_sink.specs.declared.cells.Reader.{Reader}
-use Rattle.utf8_own_sink.specs.Reading.{Told, fed, first}
+use Rattle.utf8_own_sink.specs.Reading.{Emitted, fed, first}
 use Rattle.utf8_own_sink.specs.Showing.{Broke, Making, Reads, Stands, StandsOr, Takes}
 use Rattle.utf8_own_sink.proofs.Going.{fed-append_bytes, fed-append_reader}
 
@@ -31,21 +31,21 @@ pub Reads-then : (t : Characters) (a b c : Option (List ℕ)) (r s u : Reader) (
 Reads-then t a b c r s u p q left xs ys f g =
     let F = fed t r xs in
     let here : fed t F.reader ys ≡ fed t s ys = ap (λ (x : Reader). fed t x ys) (sym f.reader) in
-    let bytes : (fed t r (xs ++ ys)).bytes ≡ F.bytes ++ (fed t s ys).bytes = fed-append_bytes t r xs ys ∙ ap (λ (x : Told). F.bytes ++ x.bytes) here in
+    let bytes : (fed t r (xs ++ ys)).bytes ≡ F.bytes ++ (fed t s ys).bytes = fed-append_bytes t r xs ys ∙ ap (λ (x : Emitted). F.bytes ++ x.bytes) here in
     let P : List ℕ → Type 0 = λ zs. Flushes a c zs left in
     record {
-      reader = g.reader ∙ ap (λ (x : Told). x.reader) (sym here) ∙ sym (fed-append_reader t r xs ys);
+      reader = g.reader ∙ ap (λ (x : Emitted). x.reader) (sym here) ∙ sym (fed-append_reader t r xs ys);
       out = subst P (append_assoc p F.bytes (fed t s ys).bytes ∙ ap (λ (zs : List ℕ). p ++ zs) (sym bytes)) (Flushes-then a b c (p ++ F.bytes) q left (fed t s ys).bytes f.out g.out);
     }
 
 -- a prefix of what these bytes come to, behind bytes that were read
-pub Front-then : (t : Characters) (a b c : Option (List ℕ)) (r s : Reader) (p q xs ys : List ℕ) → Reads t a b r s p q xs → AppendsPrefix b c (q ++ (fed t s ys).bytes) → AppendsPrefix a c (p ++ (fed t r (xs ++ ys)).bytes)
-Front-then t a b c r s p q xs ys f front =
+pub Prefix-then : (t : Characters) (a b c : Option (List ℕ)) (r s : Reader) (p q xs ys : List ℕ) → Reads t a b r s p q xs → AppendsPrefix b c (q ++ (fed t s ys).bytes) → AppendsPrefix a c (p ++ (fed t r (xs ++ ys)).bytes)
+Prefix-then t a b c r s p q xs ys f prefix =
     let F = fed t r xs in
     let here : fed t F.reader ys ≡ fed t s ys = ap (λ (x : Reader). fed t x ys) (sym f.reader) in
-    let bytes : (fed t r (xs ++ ys)).bytes ≡ F.bytes ++ (fed t s ys).bytes = fed-append_bytes t r xs ys ∙ ap (λ (x : Told). F.bytes ++ x.bytes) here in
+    let bytes : (fed t r (xs ++ ys)).bytes ≡ F.bytes ++ (fed t s ys).bytes = fed-append_bytes t r xs ys ∙ ap (λ (x : Emitted). F.bytes ++ x.bytes) here in
     let P : List ℕ → Type 0 = λ zs. AppendsPrefix a c zs in
-    subst P (append_assoc p F.bytes (fed t s ys).bytes ∙ ap (λ (zs : List ℕ). p ++ zs) (sym bytes)) (Fronts-then a b c (p ++ F.bytes) q (fed t s ys).bytes f.out front)
+    subst P (append_assoc p F.bytes (fed t s ys).bytes ∙ ap (λ (zs : List ℕ). p ++ zs) (sym bytes)) (AddsPrefix-then a b c (p ++ F.bytes) q (fed t s ys).bytes f.out prefix)
 
 -- one byte: room is made, and what it comes to is put behind what waits
 pub Reads-one : (t : Characters) (a b : Option (List ℕ)) (r s : Reader) (p q left : List ℕ) (byte : ℕ) → Flushes a b p q → s ≡ (fed t r (byte ∷ [])).reader
@@ -62,12 +62,12 @@ Reads-one t a b r s p q left byte f is put =
     }
 
 pub Takes-err : (t : Characters) (x : Result (Unit {0}) Fault) (a b : Option (List ℕ)) (r s : Reader) (p left bytes : List ℕ) → IsErr x → AppendsPrefix a b (p ++ (fed t r bytes).bytes) → Takes t a b r s p left bytes x
-Takes-err t (Ok n) a b r s p left bytes e front = absurd (let never : false ≡ true = e in cc)
-Takes-err t (Err f) a b r s p left bytes e front = front
+Takes-err t (Ok n) a b r s p left bytes e prefix = absurd (let never : false ≡ true = e in cc)
+Takes-err t (Err f) a b r s p left bytes e prefix = prefix
 
-pub Takes-room : (t : Characters) (x y : Result (Unit {0}) Fault) (a b : Option (List ℕ)) (r s : Reader) (p left bytes : List ℕ) → IsErr x → IsErr y → FrontAtErr y a b p → Takes t a b r s p left bytes x
-Takes-room t x (Ok n) a b r s p left bytes e is front = absurd (let never : false ≡ true = is in cc)
-Takes-room t x (Err f) a b r s p left bytes e is front = Takes-err t x a b r s p left bytes e (AppendsPrefix-append a b p (fed t r bytes).bytes front)
+pub Takes-room : (t : Characters) (x y : Result (Unit {0}) Fault) (a b : Option (List ℕ)) (r s : Reader) (p left bytes : List ℕ) → IsErr x → IsErr y → PrefixAtErr y a b p → Takes t a b r s p left bytes x
+Takes-room t x (Ok n) a b r s p left bytes e is prefix = absurd (let never : false ≡ true = is in cc)
+Takes-room t x (Err f) a b r s p left bytes e is prefix = Takes-err t x a b r s p left bytes e (AppendsPrefix-append a b p (fed t r bytes).bytes prefix)
 
 -- one more of these bytes
 pub Reads-more : (t : Characters) (a b c : Option (List ℕ)) (r s u : Reader) (p q left bytes : List ℕ) (i byte : ℕ) → i < length bytes → slice_index bytes i ≡ byte
@@ -76,26 +76,26 @@ Reads-more t a b c r s u p q left bytes i byte l is f g =
     let P : List ℕ → Type 0 = λ zs. Reads t a c r u p left zs in
     subst P (ap (λ (k : ℕ). take i bytes ++ k ∷ []) (sym is) ∙ sym (take_more bytes i 0 l)) (Reads-then t a b c r s u p q left (take i bytes) (byte ∷ []) f g)
 
-pub Front-more : (t : Characters) (a b c : Option (List ℕ)) (r s : Reader) (p q bytes : List ℕ) (i byte : ℕ) → i < length bytes → slice_index bytes i ≡ byte
+pub Prefix-more : (t : Characters) (a b c : Option (List ℕ)) (r s : Reader) (p q bytes : List ℕ) (i byte : ℕ) → i < length bytes → slice_index bytes i ≡ byte
     → Reads t a b r s p q (take i bytes) → AppendsPrefix b c (q ++ (fed t s (byte ∷ [])).bytes) → AppendsPrefix a c (p ++ (fed t r bytes).bytes)
-Front-more t a b c r s p q bytes i byte l is f front =
+Prefix-more t a b c r s p q bytes i byte l is f prefix =
     let P : List ℕ → Type 0 = λ zs. AppendsPrefix a c (p ++ (fed t r zs).bytes) in
     let one : AppendsPrefix a c (p ++ (fed t r (take (i + 1) bytes)).bytes) =
-    subst P (ap (λ (k : ℕ). take i bytes ++ k ∷ []) (sym is) ∙ sym (take_more bytes i 0 l)) (Front-then t a b c r s p q (take i bytes) (byte ∷ []) f front) in
+    subst P (ap (λ (k : ℕ). take i bytes ++ k ∷ []) (sym is) ∙ sym (take_more bytes i 0 l)) (Prefix-then t a b c r s p q (take i bytes) (byte ∷ []) f prefix) in
     let F = fed t r (take (i + 1) bytes) in
     let rest = (fed t F.reader (drop (i + 1) bytes)).bytes in
     let whole : F.bytes ++ rest ≡ (fed t r bytes).bytes = sym (fed-append_bytes t r (take (i + 1) bytes) (drop (i + 1) bytes)) ∙ ap (λ (zs : List ℕ). (fed t r zs).bytes) (take-append-drop (i + 1) bytes) in
     subst (λ (zs : List ℕ). AppendsPrefix a c zs) (append_assoc p F.bytes rest ∙ ap (λ (zs : List ℕ). p ++ zs) whole) (AppendsPrefix-append a c (p ++ F.bytes) rest one)
 
 -- what waits goes out
-pub Waits-out : (t : Characters) (x : Result (Unit {0}) Fault) (a b : Option (List ℕ)) (r : Reader) (p left : List ℕ) → OnOk x (Appends a b p) → FrontAtErr x a b p → OnOk x (left ≡ []) → Takes t a b r r p left [] x
-Waits-out t (Ok x) a b r p left went front none = record {
+pub Waits-out : (t : Characters) (x : Result (Unit {0}) Fault) (a b : Option (List ℕ)) (r : Reader) (p left : List ℕ) → OnOk x (Appends a b p) → PrefixAtErr x a b p → OnOk x (left ≡ []) → Takes t a b r r p left [] x
+Waits-out t (Ok x) a b r p left went prefix none = record {
   reader = refl;
   out = record { out = p; went_out = went; all = ap (λ (zs : List ℕ). p ++ zs) (sym none) };
 }
-Waits-out t (Err e) a b r p left went front none =
+Waits-out t (Err e) a b r p left went prefix none =
     let P : List ℕ → Type 0 = λ zs. AppendsPrefix a b zs in
-    subst P (sym (append-nil p)) front
+    subst P (sym (append-nil p)) prefix
 
 -- the end, behind what waits
 Closes : (a b c : Option (List ℕ)) (p q e : List ℕ) → Flushes a b p q → Appends b c (q ++ e) → Appends a c (p ++ e)
@@ -106,13 +106,13 @@ pub Closes-ok : (x : Result (Unit {0}) Fault) (a b c : Option (List ℕ)) (p q e
 Closes-ok (Ok n) a b c p q e left f is went = Closes a b c p q e f (subst (λ (zs : List ℕ). Appends b c zs) is went)
 Closes-ok (Err n) a b c p q e left f is went = tt
 
-pub Closes-err : (x : Result (Unit {0}) Fault) (a b c : Option (List ℕ)) (p q e left : List ℕ) → Flushes a b p q → left ≡ q ++ e → FrontAtErr x b c left → FrontAtErr x a c (p ++ e)
-Closes-err (Ok n) a b c p q e left f is front = tt
-Closes-err (Err n) a b c p q e left f is front = Fronts-then a b c p q e f (subst (λ (zs : List ℕ). AppendsPrefix b c zs) is front)
+pub Closes-err : (x : Result (Unit {0}) Fault) (a b c : Option (List ℕ)) (p q e left : List ℕ) → Flushes a b p q → left ≡ q ++ e → PrefixAtErr x b c left → PrefixAtErr x a c (p ++ e)
+Closes-err (Ok n) a b c p q e left f is prefix = tt
+Closes-err (Err n) a b c p q e left f is prefix = AddsPrefix-then a b c p q e f (subst (λ (zs : List ℕ). AppendsPrefix b c zs) is prefix)
 
-pub Closes-room : (x : Result (Unit {0}) Fault) (a b : Option (List ℕ)) (p e : List ℕ) → AppendsPrefix a b p → FrontAtErr x a b (p ++ e)
-Closes-room (Ok n) a b p e front = tt
-Closes-room (Err n) a b p e front = AppendsPrefix-append a b p e front
+pub Closes-room : (x : Result (Unit {0}) Fault) (a b : Option (List ℕ)) (p e : List ℕ) → AppendsPrefix a b p → PrefixAtErr x a b (p ++ e)
+Closes-room (Ok n) a b p e prefix = tt
+Closes-room (Err n) a b p e prefix = AppendsPrefix-append a b p e prefix
 
 -- ---- how it stands
 
@@ -128,24 +128,24 @@ Stands-read m came bytes a b f g r s p left st reads same =
     let t = m.table in
     let F = fed t (first m.escapes) came in
     let here : fed t F.reader bytes ≡ fed t r bytes = ap (λ (x : Reader). fed t x bytes) (sym st.reader) in
-    let whole : (fed t (first m.escapes) (came ++ bytes)).bytes ≡ F.bytes ++ (fed t r bytes).bytes = fed-append_bytes t (first m.escapes) came bytes ∙ ap (λ (x : Told). F.bytes ++ x.bytes) here in
+    let whole : (fed t (first m.escapes) (came ++ bytes)).bytes ≡ F.bytes ++ (fed t r bytes).bytes = fed-append_bytes t (first m.escapes) came bytes ∙ ap (λ (x : Emitted). F.bytes ++ x.bytes) here in
     let P : List ℕ → Type 0 = λ zs. Sends m.begun b left zs in
     record {
-      reader = reads.reader ∙ ap (λ (x : Told). x.reader) (sym here) ∙ sym (fed-append_reader t (first m.escapes) came bytes);
+      reader = reads.reader ∙ ap (λ (x : Emitted). x.reader) (sym here) ∙ sym (fed-append_reader t (first m.escapes) came bytes);
       out = subst P (sym whole) (Sends-on m.begun a b p left F.bytes (fed t r bytes).bytes st.out reads.out);
       none = same ∙ st.none;
     }
 
 Stands-broke : (m : Making) (came bytes : List ℕ) (a b : Option (List ℕ)) (f g : ℕ) (r : Reader) (p : List ℕ) → Stands m came a f r p → AppendsPrefix a b (p ++ (fed m.table r bytes).bytes) → g ≡ next_count f
     → Broke m (came ++ bytes) b g
-Stands-broke m came bytes a b f g r p st front one =
+Stands-broke m came bytes a b f g r p st prefix one =
     let t = m.table in
     let F = fed t (first m.escapes) came in
     let whole : (fed t (first m.escapes) (came ++ bytes)).bytes ≡ F.bytes ++ (fed t r bytes).bytes =
     fed-append_bytes t (first m.escapes) came bytes ∙ ap (λ (x : Reader). F.bytes ++ (fed t x bytes).bytes) (sym st.reader) in
-    let P : List ℕ → Type 0 = λ zs. Fronts m.begun b zs in
+    let P : List ℕ → Type 0 = λ zs. AddsPrefix m.begun b zs in
     record {
-      out = subst P (sym whole) (Fronts-of m.begun a b p F.bytes (fed t r bytes).bytes st.out front);
+      out = subst P (sym whole) (AddsPrefix-of m.begun a b p F.bytes (fed t r bytes).bytes st.out prefix);
       one = one ∙ ap next_count st.none;
     }
 
@@ -153,8 +153,8 @@ pub Broke-more : (m : Making) (came bytes : List ℕ) (a : Option (List ℕ)) (f
 Broke-more m came bytes a f br =
     let t = m.table in
     let F = fed t (first m.escapes) came in
-    let P : List ℕ → Type 0 = λ zs. Fronts m.begun a zs in
-    record { out = subst P (sym (fed-append_bytes t (first m.escapes) came bytes)) (Fronts-more m.begun a F.bytes (fed t F.reader bytes).bytes br.out); one = br.one }
+    let P : List ℕ → Type 0 = λ zs. AddsPrefix m.begun a zs in
+    record { out = subst P (sym (fed-append_bytes t (first m.escapes) came bytes)) (AddsPrefix-more m.begun a F.bytes (fed t F.reader bytes).bytes br.out); one = br.one }
 
 broke_is : (m : Making) (came new : List ℕ) (a b : Option (List ℕ)) (f g : ℕ) → new ≡ came → b ≡ a → g ≡ f → Broke m came a f → Broke m new b g
 broke_is m came new a b f g more held failed br =
@@ -187,8 +187,8 @@ broken-more true m came new bytes a b f g r p e st more held failed = ∥∥₁_
 
 breaks : (z : Bool) (m : Making) (came new bytes : List ℕ) (a b : Option (List ℕ)) (f g : ℕ) (r : Reader) (p : List ℕ) → z ≡ false → ∥ StandsOr z m came a f r p ∥₁
     → new ≡ came ++ bytes → AppendsPrefix a b (p ++ (fed m.table r bytes).bytes) → g ≡ next_count f → ∥ Broke m new b g ∥₁
-breaks false m came new bytes a b f g r p e st more front failed = ∥∥₁_map st (λ s. broke_is m (came ++ bytes) new b b g g more refl refl (Stands-broke m came bytes a b f g r p s front failed))
-breaks true m came new bytes a b f g r p e st more front failed = absurd (let never : true ≡ false = e in cc)
+breaks false m came new bytes a b f g r p e st more prefix failed = ∥∥₁_map st (λ s. broke_is m (came ++ bytes) new b b g g more refl refl (Stands-broke m came bytes a b f g r p s prefix failed))
+breaks true m came new bytes a b f g r p e st more prefix failed = absurd (let never : true ≡ false = e in cc)
 
 reads-on : (z : Bool) (m : Making) (came new bytes : List ℕ) (a b : Option (List ℕ)) (f g : ℕ) (r s : Reader) (p left : List ℕ) → z ≡ false → ∥ StandsOr z m came a f r p ∥₁
     → new ≡ came ++ bytes → Reads m.table a b r s p left bytes → g ≡ f → ∥ StandsOr z m new b g s left ∥₁

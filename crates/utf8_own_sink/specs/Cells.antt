@@ -5,7 +5,7 @@ use Rattle.nr_vectors.specs.Cell.{is_under}
 use Rattle.nr_vectors.specs.declared.cell.Look.{Look}
 use Rattle.nr_vectors.specs.declared.cell.Look.TheVariants.{Plain, Under, Bold}
 use Rattle.utf8_own_characters.specs.Cluster.{blank, single}
-use Rattle.utf8_own_characters.specs.Reading.{behind_blank, read, shows}
+use Rattle.utf8_own_characters.specs.Reading.{after_blank, read, shows}
 use Rattle.utf8_own_characters.specs.Table.{Characters}
 use Rattle.utf8_own_characters.specs.declared.cluster.Cluster.{Cluster}
 use Rattle.utf8_own_characters.specs.declared.reading.Read.{Read}
@@ -65,7 +65,7 @@ byte_of (Some c) = Some c.byte
 -- a byte of ASCII is its character, whatever the table; before it a first half that waits is a blank
 abbrev pub ascii : Option ℕ → ℕ → Read
 ascii None b = shows (single b)
-ascii (Some lead) b = behind_blank (shows (single b))
+ascii (Some lead) b = after_blank (shows (single b))
 
 abbrev pub read_byte : Characters → Option ℕ → ℕ → Read
 read_byte t lead b = if nat_lt b 128 then ascii lead b else read t lead b

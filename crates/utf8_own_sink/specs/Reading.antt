@@ -81,16 +81,16 @@ abbrev pub first : Bool → Reader
 first escapes = record { half = Nothing; before = Plain; lead = None; way = first_way escapes }
 
 -- where the reader stands after bytes, and what went out
-pub record Told : Type 0 where
+pub record Emitted : Type 0 where
   pub reader : Reader
   pub bytes : List ℕ
 
-abbrev pub behind : List ℕ → Told → Told
-behind bytes t = record { reader = t.reader; bytes = bytes ++ t.bytes }
+abbrev pub preceded : List ℕ → Emitted → Emitted
+preceded bytes t = record { reader = t.reader; bytes = bytes ++ t.bytes }
 
-abbrev pub fed : Characters → Reader → List ℕ → Told
+abbrev pub fed : Characters → Reader → List ℕ → Emitted
 fed t r [] = record { reader = r; bytes = [] }
-fed t r (b ∷ bs) = behind (said t r.half b r) (fed t (after t r.half b r) bs)
+fed t r (b ∷ bs) = preceded (said t r.half b r) (fed t (after t r.half b r) bs)
 
 -- ---- the end comes
 

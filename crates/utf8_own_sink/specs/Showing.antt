@@ -4,7 +4,7 @@ use Rattle.std.specs.Io.KnownBytes.{Appends}
 use Rattle.nr_units.specs.Failures.{next_count}
 use Rattle.nr_units.specs.Sink.{AppendsPrefix}
 use Rattle.document_stages.specs.Running.{Flushes}
-use Rattle.utf8_converter.specs.Showing.{Fronts, Sends, counted_bytes}
+use Rattle.utf8_converter.specs.Showing.{AddsPrefix, Sends, counted_bytes}
 use Rattle.utf8_own_characters.specs.Table.{Characters}
 use Rattle.utf8_own_characters.specs.declared.cluster.Cluster.{Cluster}
 use Rattle.utf8_own_sink.specs.Cells.{converted}
@@ -26,8 +26,8 @@ listed_before [] rest = 0 ∷ rest
 listed_before (c ∷ cs) rest = 1 ∷ c.letter ∷ c.first_mark ∷ c.second_mark ∷ c.third_mark ∷ listed_before cs rest
 
 -- What it holds once these bytes came says how it was made and what they are: nothing else is written so.
-abbrev pub told : Making → List ℕ → List ℕ
-told m came =
+abbrev pub emitted : Making → List ℕ → List ℕ
+emitted m came =
     m.table.halves ∷ (if m.escapes then 1 else 0) ∷ m.failed
     ∷ listed_before m.table.narrow (listed_before m.table.wide (counted_bytes m.begun ++ came))
 
@@ -54,7 +54,7 @@ pub record Stands (m : Making) (came : List ℕ) (held : Option (List ℕ)) (fai
 
 -- these bytes came, and the other sink failed once
 pub record Broke (m : Making) (came : List ℕ) (held : Option (List ℕ)) (failed : ℕ) : Type 0 where
-  pub out : Fronts m.begun held (fed m.table (first m.escapes) came).bytes
+  pub out : AddsPrefix m.begun held (fed m.table (first m.escapes) came).bytes
   pub one : failed ≡ next_count m.failed
 
 abbrev pub StandsOr : Bool → Making → List ℕ → Option (List ℕ) → ℕ → Reader → List ℕ → Type 0

@@ -4,7 +4,7 @@ ghost use Rattle.std.proofs.Math.Logic.{∥∥₁_prop};
 ghost use Rattle.nr_units.specs.Failures.{no_failures};
 ghost use Rattle.nr_units.specs.Sink.{AppendsPrefix};
 ghost use Rattle.utf8_own_sink.specs.Cells.{converted};
-ghost use Rattle.utf8_own_sink.specs.Showing.{Making, Finishes, StandsOr, told};
+ghost use Rattle.utf8_own_sink.specs.Showing.{Making, Finishes, StandsOr, emitted};
 
 use super::turner::Turner;
 use nr_units::sink::Sink;
@@ -42,13 +42,13 @@ pub struct Shown<'a, W: Sink> {
 }
 
 impl<'a, W: Sink> Model for Shown<'a, W> {
-    ghost use Rattle.utf8_converter.specs.Showing.{Told};
-    ghost use Rattle.utf8_own_sink.specs.Showing.{told};
+    ghost use Rattle.utf8_converter.specs.Showing.{ShownSoFar};
+    ghost use Rattle.utf8_own_sink.specs.Showing.{emitted};
 
-    ghost Value = { Told };
+    ghost Value = { ShownSoFar };
 
     ghost view = { λ s. record {
-      bytes = told (record {
+      bytes = emitted (record {
         table = s.table.now;
         escapes = s.escapes;
         begun = W.held s.begun.value;
@@ -64,7 +64,7 @@ impl<'a, W: Sink> Shown<'a, W> {
     /// stand between escape sequences.
     pub fn over(output: W, table: &'a Table<'a>, escapes: bool, room: &'a mut [u8]) -> Self
         requires { 512 ≤ length room.now }
-        ensures held { result.bytes ≡ told (record {
+        ensures held { result.bytes ≡ emitted (record {
           table = table.now;
           escapes = escapes;
           begun = W.held output;
@@ -91,10 +91,10 @@ impl<'a, W: Sink> Shown<'a, W> {
     /// The end comes, and all goes out. Gives the sink back, and a fault where it failed.
     pub fn finish(self) -> (W, Result<(), Fault>)
         // What it holds says how it was made and what came, and the other sink got what that comes to.
-        ensures shown { (m : Making) (came : List ℕ) → self.entry.bytes ≡ told m came →
+        ensures shown { (m : Making) (came : List ℕ) → self.entry.bytes ≡ emitted m came →
             Finishes m came (W.held result.0) (W.failures result.0).puts result.1 }
         // Once a put failed, it got a prefix of what these bytes come to and any that would have followed.
-        ensures broke { (m : Making) (came more : List ℕ) → self.entry.bytes ≡ told m came →
+        ensures broke { (m : Making) (came more : List ℕ) → self.entry.bytes ≡ emitted m came →
             self.entry.failures.puts ≢ 0 →
             AppendsPrefix m.begun (W.held result.0) (converted m.table m.escapes (came ++ more)) }
         ensures fails { IsOk result.1 → self.entry.failures.puts ≡ 0 }

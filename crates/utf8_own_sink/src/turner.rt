@@ -2,7 +2,7 @@
 ghost use Rattle.std.specs.Prelude.{◌≡◌, ◌+◌, ◌≤◌, [], ◌∷◌, ◌++◌, length, OnOk};
 ghost use Rattle.std.specs.Io.KnownBytes.{Appends};
 ghost use Rattle.nr_units.specs.Failures.{put_counted};
-ghost use Rattle.document_stages.specs.Running.{Flushes, FrontAtErr};
+ghost use Rattle.document_stages.specs.Running.{Flushes, PrefixAtErr};
 ghost use Rattle.utf8_own_characters.specs.Table.{Characters};
 ghost use Rattle.utf8_own_sink.specs.Reading.{ended, first};
 ghost use Rattle.utf8_own_sink.specs.Showing as specs;
@@ -24,7 +24,7 @@ pub(crate) struct Turner<'a> {
 /// All that waits goes out.
 fn put_waiting<W: Sink>(out: &mut SliceVec<'_, u8>, output: &mut W) -> Result<(), Fault>
     ensures ok { OnOk result (Appends (W.held output.old) (W.held output.new) out.old.items) }
-    ensures err { FrontAtErr result (W.held output.old) (W.held output.new) out.old.items }
+    ensures err { PrefixAtErr result (W.held output.old) (W.held output.new) out.old.items }
     ensures empty { OnOk result (out.new.items ≡ []) }
     ensures failures { W.failures output.new ≡ put_counted (W.failures output.old) result }
     ensures room { out.new.capacity ≡ out.old.capacity }
@@ -39,7 +39,7 @@ fn put_waiting<W: Sink>(out: &mut SliceVec<'_, u8>, output: &mut W) -> Result<()
 fn make_room<W: Sink>(out: &mut SliceVec<'_, u8>, output: &mut W) -> Result<(), Fault>
     requires { 512 ≤ out.old.capacity }
     ensures ok { OnOk result (Flushes (W.held output.old) (W.held output.new) out.old.items out.new.items) }
-    ensures err { FrontAtErr result (W.held output.old) (W.held output.new) out.old.items }
+    ensures err { PrefixAtErr result (W.held output.old) (W.held output.new) out.old.items }
     ensures fits { OnOk result (length out.new.items + 256 ≤ out.new.capacity) }
     ensures failures { W.failures output.new ≡ put_counted (W.failures output.old) result }
     ensures room { out.new.capacity ≡ out.old.capacity }
@@ -105,7 +105,7 @@ impl<'a> Turner<'a> {
     pub(crate) fn close<W: Sink>(&mut self, table: &Table<'_>, output: &mut W) -> Result<(), Fault>
         ensures ok { OnOk result (Appends (W.held output.old) (W.held output.new)
             (self.old.out.items ++ ended table.now self.old.reader)) }
-        ensures err { FrontAtErr result (W.held output.old) (W.held output.new)
+        ensures err { PrefixAtErr result (W.held output.old) (W.held output.new)
             (self.old.out.items ++ ended table.now self.old.reader) }
         ensures failures { W.failures output.new ≡ put_counted (W.failures output.old) result }
     {

@@ -16,7 +16,7 @@ use Rattle.utf8_own_characters.proofs.Tests.{no_bool, no_some, some_of, and_firs
 use Rattle.utf8_own_stage.specs.declared.points.Place.{Place}
 use Rattle.utf8_own_stage.specs.declared.points.Point.{Point}
 use Rattle.utf8_own_stage.specs.declared.points.Point.TheVariants.{Nothing, Cut, Newline, Joint}
-use Rattle.utf8_own_stage.specs.Coding.{coded_by, coded, put_at, said_cluster, after_cluster, said_byte, after_byte, said, place_after, said_of, said_last, place_behind, coding}
+use Rattle.utf8_own_stage.specs.Coding.{coded_by, coded, put_at, said_cluster, after_cluster, said_byte, after_byte, said, place_after, said_of, said_last, place_after_all, coding}
 use Rattle.utf8_own_stage.specs.Laws.{cells_of, cells_from, cells_in, cell_at, pointed_from, pointed, ComesBack}
 use Rattle.utf8_own_stage.specs.Points.{first_place, holds, left, newline, passed, point, text_of}
 
@@ -137,7 +137,7 @@ text_back t l p (b ∷ bs) all =
     let x = read l b in
     let q = place_after p x in
     let both = covers-append t (cells_of x) (cells_from x.listener bs) all in
-    append_assoc (said t p x) (said_of t x.listener q bs) (said_last t (place_behind x.listener q bs) (after x.listener bs).held)
+    append_assoc (said t p x) (said_of t x.listener q bs) (said_last t (place_after_all x.listener q bs) (after x.listener bs).held)
     ∙ step_back t p x.done x.byte (cells_from x.listener bs) (coding t x.listener q true bs) (low_read l b) both.0 (text_back t x.listener q bs both.1)
 
 covers-both : (t : Characters) (xs ys : List Cluster) → covers t xs ≡ true → covers t ys ≡ true → covers t (xs ++ ys) ≡ true

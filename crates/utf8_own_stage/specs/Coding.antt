@@ -53,9 +53,9 @@ abbrev pub said_of : Characters → Listener → Place → List ℕ → List ℕ
 said_of t l p [] = []
 said_of t l p (b ∷ bs) = said t p (read l b) ++ said_of t (read l b).listener (place_after p (read l b)) bs
 
-abbrev pub place_behind : Listener → Place → List ℕ → Place
-place_behind l p [] = p
-place_behind l p (b ∷ bs) = place_behind (read l b).listener (place_after p (read l b)) bs
+abbrev pub place_after_all : Listener → Place → List ℕ → Place
+place_after_all l p [] = p
+place_after_all l p (b ∷ bs) = place_after_all (read l b).listener (place_after p (read l b)) bs
 
 -- of the end
 abbrev pub said_last : Characters → Place → Option Cluster → List ℕ
@@ -64,7 +64,7 @@ said_last t p held = said_cluster t p held ++ left (after_cluster p held)
 -- of a text that is to come, and of its end, if it comes
 abbrev pub coding : Characters → Listener → Place → Bool → List ℕ → List ℕ
 coding t l p false bytes = said_of t l p bytes
-coding t l p true bytes = said_of t l p bytes ++ said_last t (place_behind l p bytes) (after l bytes).held
+coding t l p true bytes = said_of t l p bytes ++ said_last t (place_after_all l p bytes) (after l bytes).held
 
 abbrev pub coded_text : Characters → Bool → List ℕ → List ℕ
 coded_text t = coding t first first_place

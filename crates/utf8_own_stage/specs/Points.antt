@@ -72,16 +72,16 @@ left p = if p.waits then newline ∷ [] else []
 -- ---- the place after a character
 
 -- in a table the format ends with a dot, and before a block a row with a brace
-abbrev pub table_behind : Table → ℕ → Table
-table_behind tables.Format before = if before == code "." then tables.Rows else tables.Format
-table_behind tables.Rows before = if before == code "{" then tables.Block else tables.Rows
-table_behind table before = table
+abbrev pub table_after : Table → ℕ → Table
+table_after tables.Format before = if before == code "." then tables.Rows else tables.Format
+table_after tables.Rows before = if before == code "{" then tables.Block else tables.Rows
+table_after table before = table
 
 abbrev pub line_ended : Place → Place
 line_ended p = record {
   line = lines.Start;
   escape = escapes.Plain;
-  table = table_behind p.table p.before;
+  table = table_after p.table p.before;
   before = none;
   waits = may_join p;
 }

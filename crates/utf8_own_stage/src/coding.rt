@@ -118,7 +118,7 @@ pub(crate) fn put_all(
     ensures items { out.new.items ≡ out.old.items ++ specs.said_of table.now listener.old place.old bytes.now }
     ensures few { length out.new.items ≤ length out.old.items + 32 * length bytes.now }
     ensures listener { listener.new ≡ after listener.old bytes.now }
-    ensures place { place.new ≡ specs.place_behind listener.old place.old bytes.now }
+    ensures place { place.new ≡ specs.place_after_all listener.old place.old bytes.now }
     ensures room { out.new.capacity ≡ out.old.capacity }
 {
     for byte in bytes {

@@ -1,6 +1,6 @@
 use Rattle.std.proofs.Common.{◌∙◌, Option, take, ap}
 use Rattle.nr_units.specs.Source.{Supply}
-use Rattle.document_stages.specs.Joined.{behind, joined}
+use Rattle.document_stages.specs.Joined.{preceded, joined}
 use Rattle.document_stages.specs.Pulling.{broken_off}
 use Rattle.document_reader.specs.Page.{plain_so_far, plain_supply}
 use Rattle.tbl_stage.specs.Text.{bounds_in, set_text}
@@ -13,7 +13,7 @@ returns-clause-whole g c q is kept short =
     let plain = plain_supply s.stages s.characters q in
     let text = c.set_tables-text.ensures.supply plain (c.read_page-page.ensures.whole q is kept short) in
     let supply = c.over-all.ensures.supply ∙ ap (λ (x : Option Supply). joined s.macros.now x) text in
-    carried _ _ _ _ _ _ _ _ (c.format-outcome.ensures.answers (behind s.macros.now (set_text (bounds_in c.args.rooms.now) plain)) supply) c.lend-2.ensures.limits
+    carried _ _ _ _ _ _ _ _ (c.format-outcome.ensures.answers (preceded s.macros.now (set_text (bounds_in c.args.rooms.now) plain)) supply) c.lend-2.ensures.limits
 
 pub returns-clause-cut : goal.returns-clause-cut
 returns-clause-cut g c q n is after few short =
@@ -21,4 +21,4 @@ returns-clause-cut g c q n is after few short =
     let plain = broken_off (plain_so_far s.stages s.characters (take n q.bytes)) in
     let text = c.set_tables-text.ensures.supply plain (c.read_page-page.ensures.cut q n is after few short) in
     let supply = c.over-all.ensures.supply ∙ ap (λ (x : Option Supply). joined s.macros.now x) text in
-    carried _ _ _ _ _ _ _ _ (c.format-outcome.ensures.answers (behind s.macros.now (set_text (bounds_in c.args.rooms.now) plain)) supply) c.lend-2.ensures.limits
+    carried _ _ _ _ _ _ _ _ (c.format-outcome.ensures.answers (preceded s.macros.now (set_text (bounds_in c.args.rooms.now) plain)) supply) c.lend-2.ensures.limits

@@ -5,7 +5,7 @@ use Rattle.utf8_converter.specs.Showing as utf8
 use Rattle.utf8_own_sink.specs.Showing as owns
 use Rattle.tbl_stage.specs.Text.{bounds_in}
 use Rattle.document_printing.specs.Document.{setting_of, source_of, source_so_far}
-use Rattle.document_printing.specs.Showing.{told_shown}
+use Rattle.document_printing.specs.Showing.{reported_shown}
 use Rattle.document_printing.specs.declared.showing.PageTable.{PageTable}
 use Rattle.document_printing.specs.declared.showing.PageTable.TheVariants.{Fixed, Own}
 use Rattle.document_printing.specs.declared.showing.Spelling.{Spelling}
@@ -39,7 +39,7 @@ returns-in-Fixed-clause-whole g c q is kept short =
     shows-as s w m.begun m.failed (source_of s q) c.print-printed.result.moves c.args.showing.now.spelling c.report_shown-report.result.moves c.print-printed.result.outcome c.report_shown-report.result.outcome start.bytes end.bytes
     start.failures.puts end.failures.puts (held new) (failures new).puts c.finish-output.result.1
     (c.in-Utf8.is ∙ ap (λ (x : PageTable). Utf8 x c.in-Utf8.escapes) c.in-Fixed.is) c.report_shown-report.ensures.moves
-    (c.report_shown-report.ensures.outcome ∙ ap (λ (z : Bool). told_shown c.print-printed.result.outcome z) c.is_err-failed.ensures.value) none
+    (c.report_shown-report.ensures.outcome ∙ ap (λ (z : Bool). reported_shown c.print-printed.result.outcome z) c.is_err-failed.ensures.value) none
     (fixed-ended w m start.bytes end.bytes end.failures.puts (held new) (failures new).puts c.finish-output.result.1 (λ z. refl) c.over-shown.ensures.held e.shown e.broke e.fails)
     (c.print-printed.ensures.whole q is kept short) c.print-printed.ensures.write_faults
 
@@ -58,7 +58,7 @@ returns-in-Fixed-clause-cut g c q n is after few short =
     shows-as s w m.begun m.failed (source_so_far s (take n q.bytes)) c.print-printed.result.moves c.args.showing.now.spelling c.report_shown-report.result.moves c.print-printed.result.outcome c.report_shown-report.result.outcome start.bytes end.bytes
     start.failures.puts end.failures.puts (held new) (failures new).puts c.finish-output.result.1
     (c.in-Utf8.is ∙ ap (λ (x : PageTable). Utf8 x c.in-Utf8.escapes) c.in-Fixed.is) c.report_shown-report.ensures.moves
-    (c.report_shown-report.ensures.outcome ∙ ap (λ (z : Bool). told_shown c.print-printed.result.outcome z) c.is_err-failed.ensures.value) none
+    (c.report_shown-report.ensures.outcome ∙ ap (λ (z : Bool). reported_shown c.print-printed.result.outcome z) c.is_err-failed.ensures.value) none
     (fixed-ended w m start.bytes end.bytes end.failures.puts (held new) (failures new).puts c.finish-output.result.1 (λ z. refl) c.over-shown.ensures.held e.shown e.broke e.fails)
     (c.print-printed.ensures.cut q n is after few short) c.print-printed.ensures.write_faults
 
@@ -76,7 +76,7 @@ returns-in-Fixed-clause-write_faults g c q is kept short =
     let e = c.finish-output.ensures in
     tells-as s w m.begun m.failed (source_of s q) c.print-printed.result.moves c.print-printed.result.outcome c.report_shown-report.result.outcome start.bytes end.bytes
     start.failures.puts end.failures.puts (held new) (failures new).puts c.finish-output.result.1
-    (c.report_shown-report.ensures.outcome ∙ ap (λ (z : Bool). told_shown c.print-printed.result.outcome z) c.is_err-failed.ensures.value) none
+    (c.report_shown-report.ensures.outcome ∙ ap (λ (z : Bool). reported_shown c.print-printed.result.outcome z) c.is_err-failed.ensures.value) none
     (fixed-ended w m start.bytes end.bytes end.failures.puts (held new) (failures new).puts c.finish-output.result.1 (λ z. refl) c.over-shown.ensures.held e.shown e.broke e.fails)
     (c.print-printed.ensures.whole q is kept short) c.print-printed.ensures.write_faults
 
@@ -92,10 +92,10 @@ returns-in-Own-clause-whole g c q is kept short =
     let new = c.finish-below.result.0 in
     let none : start.failures.puts ≡ 0 = ap (λ (f : SinkFailures). f.puts) c.over-letters.ensures.failures in
     let e = c.finish-below.ensures in
-    shows-as s w m.begun m.failed (source_of s q) c.print-made.result.moves c.args.showing.now.spelling c.report_shown-told.result.moves c.print-made.result.outcome c.report_shown-told.result.outcome start.bytes end.bytes
+    shows-as s w m.begun m.failed (source_of s q) c.print-made.result.moves c.args.showing.now.spelling c.report_shown-reported.result.moves c.print-made.result.outcome c.report_shown-reported.result.outcome start.bytes end.bytes
     start.failures.puts end.failures.puts (held new) (failures new).puts c.finish-below.result.1
-    (c.in-Utf8.is ∙ ap (λ (x : PageTable). Utf8 x c.in-Utf8.escapes) c.in-Own.is) c.report_shown-told.ensures.moves
-    (c.report_shown-told.ensures.outcome ∙ ap (λ (z : Bool). told_shown c.print-made.result.outcome z) c.is_err-is_cut.ensures.value) none
+    (c.in-Utf8.is ∙ ap (λ (x : PageTable). Utf8 x c.in-Utf8.escapes) c.in-Own.is) c.report_shown-reported.ensures.moves
+    (c.report_shown-reported.ensures.outcome ∙ ap (λ (z : Bool). reported_shown c.print-made.result.outcome z) c.is_err-is_cut.ensures.value) none
     (own-ended w m start.bytes end.bytes end.failures.puts (held new) (failures new).puts c.finish-below.result.1 (λ z. refl) c.over-letters.ensures.held e.shown e.broke e.fails)
     (c.print-made.ensures.whole q is kept short) c.print-made.ensures.write_faults
 
@@ -111,10 +111,10 @@ returns-in-Own-clause-cut g c q n is after few short =
     let new = c.finish-below.result.0 in
     let none : start.failures.puts ≡ 0 = ap (λ (f : SinkFailures). f.puts) c.over-letters.ensures.failures in
     let e = c.finish-below.ensures in
-    shows-as s w m.begun m.failed (source_so_far s (take n q.bytes)) c.print-made.result.moves c.args.showing.now.spelling c.report_shown-told.result.moves c.print-made.result.outcome c.report_shown-told.result.outcome start.bytes end.bytes
+    shows-as s w m.begun m.failed (source_so_far s (take n q.bytes)) c.print-made.result.moves c.args.showing.now.spelling c.report_shown-reported.result.moves c.print-made.result.outcome c.report_shown-reported.result.outcome start.bytes end.bytes
     start.failures.puts end.failures.puts (held new) (failures new).puts c.finish-below.result.1
-    (c.in-Utf8.is ∙ ap (λ (x : PageTable). Utf8 x c.in-Utf8.escapes) c.in-Own.is) c.report_shown-told.ensures.moves
-    (c.report_shown-told.ensures.outcome ∙ ap (λ (z : Bool). told_shown c.print-made.result.outcome z) c.is_err-is_cut.ensures.value) none
+    (c.in-Utf8.is ∙ ap (λ (x : PageTable). Utf8 x c.in-Utf8.escapes) c.in-Own.is) c.report_shown-reported.ensures.moves
+    (c.report_shown-reported.ensures.outcome ∙ ap (λ (z : Bool). reported_shown c.print-made.result.outcome z) c.is_err-is_cut.ensures.value) none
     (own-ended w m start.bytes end.bytes end.failures.puts (held new) (failures new).puts c.finish-below.result.1 (λ z. refl) c.over-letters.ensures.held e.shown e.broke e.fails)
     (c.print-made.ensures.cut q n is after few short) c.print-made.ensures.write_faults
 
@@ -130,8 +130,8 @@ returns-in-Own-clause-write_faults g c q is kept short =
     let new = c.finish-below.result.0 in
     let none : start.failures.puts ≡ 0 = ap (λ (f : SinkFailures). f.puts) c.over-letters.ensures.failures in
     let e = c.finish-below.ensures in
-    tells-as s w m.begun m.failed (source_of s q) c.print-made.result.moves c.print-made.result.outcome c.report_shown-told.result.outcome start.bytes end.bytes
+    tells-as s w m.begun m.failed (source_of s q) c.print-made.result.moves c.print-made.result.outcome c.report_shown-reported.result.outcome start.bytes end.bytes
     start.failures.puts end.failures.puts (held new) (failures new).puts c.finish-below.result.1
-    (c.report_shown-told.ensures.outcome ∙ ap (λ (z : Bool). told_shown c.print-made.result.outcome z) c.is_err-is_cut.ensures.value) none
+    (c.report_shown-reported.ensures.outcome ∙ ap (λ (z : Bool). reported_shown c.print-made.result.outcome z) c.is_err-is_cut.ensures.value) none
     (own-ended w m start.bytes end.bytes end.failures.puts (held new) (failures new).puts c.finish-below.result.1 (λ z. refl) c.over-letters.ensures.held e.shown e.broke e.fails)
     (c.print-made.ensures.whole q is kept short) c.print-made.ensures.write_faults

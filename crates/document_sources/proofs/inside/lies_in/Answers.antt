@@ -7,10 +7,10 @@ pub returns : goal.returns
 returns c =
     let root = c.args.root.now in
     let rest = c.in-Some-split_first.rest.now in
-    let behind : c.args.path.now ≡ root ++ c.in-Some.below.now =
+    let following : c.args.path.now ≡ root ++ c.in-Some.below.now =
     strip_prefix_is Decides-eqb c.args.path.now root (Some c.in-Some.below) c.in-Some.ensures.cases in
     λ is. record {
       rest = rest;
-      path_is = behind ∙ ap (λ (x : List ℕ). root ++ x) (c.in-Some-split_first.ensures.cases.0 ∙ ap (λ (b : ℕ). b ∷ rest) c.if-first-ne47.false);
+      path_is = following ∙ ap (λ (x : List ℕ). root ++ x) (c.in-Some-split_first.ensures.cases.0 ∙ ap (λ (b : ℕ). b ∷ rest) c.if-first-ne47.false);
       inner = sym c.is_inner.ensures ∙ is;
     }

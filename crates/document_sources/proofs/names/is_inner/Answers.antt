@@ -15,8 +15,8 @@ not_slash b differs = grind (arith, nat_tests)
 at_other : (part bs : List ℕ) (b : ℕ) → (b ≡ 47 → ⊥) → are_proper part (b ∷ bs) ≡ are_proper (part ++ b ∷ []) bs
 at_other part bs b differs = rw (not_slash b differs)
 
-front : (path : List ℕ) (at : ℕ) → at < length path → drop at path ≡ get_or path at 0 ∷ drop (at + 1) path
-front path at h = rw add-one (drop-cons path at 0 h)
+prefix : (path : List ℕ) (at : ℕ) → at < length path → drop at path ≡ get_or path at 0 ∷ drop (at + 1) path
+prefix path at h = rw add-one (drop-cons path at 0 h)
 
 none_left : (at : ℕ) (path : List ℕ) → take (at + 1 - (at + 1)) path ≡ []
 none_left at path = let none : at + 1 - (at + 1) ≡ 0 = omega arith in rw none
@@ -35,7 +35,7 @@ slash_step : (path : List ℕ) (start at : ℕ) → at < length path → get_or 
     → are_proper [] path ≡ are_proper (take (at - start) (drop start path)) (drop at path)
     → are_proper [] path ≡ are_proper (take (at + 1 - (at + 1)) (drop (at + 1) path)) (drop (at + 1) path)
 slash_step path start at h is proper same =
-    same ∙ ap (are_proper (take (at - start) (drop start path))) (front path at h)
+    same ∙ ap (are_proper (take (at - start) (drop start path))) (prefix path at h)
     ∙ at_slash (take (at - start) (drop start path)) (drop (at + 1) path) (get_or path at 0) is proper
     ∙ ap (λ (part : List ℕ). are_proper part (drop (at + 1) path)) (sym (none_left at (drop (at + 1) path)))
 
@@ -43,7 +43,7 @@ other_step : (path : List ℕ) (start at : ℕ) → start ≤ at → at < length
     → are_proper [] path ≡ are_proper (take (at - start) (drop start path)) (drop at path)
     → are_proper [] path ≡ are_proper (take (at + 1 - start) (drop start path)) (drop (at + 1) path)
 other_step path start at from h differs same =
-    same ∙ ap (are_proper (take (at - start) (drop start path))) (front path at h)
+    same ∙ ap (are_proper (take (at - start) (drop start path))) (prefix path at h)
     ∙ at_other (take (at - start) (drop start path)) (drop (at + 1) path) (get_or path at 0) differs
     ∙ ap (λ (part : List ℕ). are_proper part (drop (at + 1) path)) (sym (part_more path start at from h))
 

@@ -11,9 +11,9 @@ pub returns-in_err-put-clause-err : goal.returns-in_err-put-clause-err
 returns-in_err-put-clause-err g c =
     let parts = c.args.parts.now in
     let at = c.loop-part.part-index in
-    let front = AppendsPrefix-after _ _ _ _ _ c.loop-part.invariant.put c.in_err-put.ensures.err in
-    let begun = AppendsPrefix-append _ _ _ (joined (drop (at + 1) parts)) front in
-    let told = subst (AppendsPrefix _ _) (sym (joined-at parts at _ c.loop-part-test.true)) begun in
+    let prefix = AppendsPrefix-after _ _ _ _ _ c.loop-part.invariant.put c.in_err-put.ensures.err in
+    let begun = AppendsPrefix-append _ _ _ (joined (drop (at + 1) parts)) prefix in
+    let reported = subst (AppendsPrefix _ _) (sym (joined-at parts at _ c.loop-part-test.true)) begun in
     search rules
 
 pub loop-part-preserved : goal.loop-part-preserved

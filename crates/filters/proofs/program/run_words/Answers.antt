@@ -9,5 +9,5 @@ returns-clause-ends g c = record {
   untold_before = g.E.Sink.failures c.run-output.new.errors;
   quiet = λ unread. (ap g.E.Sink.held (c.run-output.ensures.quiet unread), ap g.E.Sink.failures (c.run-output.ensures.quiet unread));
   status_is = c.tell.ensures.status;
-  line = rw c.name.ensures at c.tell.ensures.told;
+  line = rw c.name.ensures at c.tell.ensures.reported;
 }

@@ -13,5 +13,5 @@ returns-in-Ok-cells_of-clause-reads g c =
       left = look.left;
       opened = look.opened;
       asks = look.asks;
-      is = ranked-in look.left c.first_of.new.front.items _ look.is (rw c.as_slice.ensures.value at c.in-Ok-cells_of.ensures);
+      is = ranked-in look.left c.first_of.new.prefix.items _ look.is (rw c.as_slice.ensures.value at c.in-Ok-cells_of.ensures);
     }

@@ -21,7 +21,7 @@ returns-clause-printed c sets characters held limits drawn short = record {
       (c.form_of-form.ensures ∙ ap (λ t. form_of c.args.setup.now.options.form t) characters) c.report_of.ensures.dropped;
   handed = search rules;
   code_is = search rules;
-  moves_told = search rules;
+  moves_reported = search rules;
   limit = search rules;
   place = search rules;
 }

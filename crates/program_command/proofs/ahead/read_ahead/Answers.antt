@@ -2,7 +2,7 @@ use Rattle.std.proofs.Common.{rules, arith, ◌≡◌, ℕ, List, ◌∷◌, [],
 use Rattle.std.proofs.lemmas.Grind.{common_steps}
 use Rattle.document_stages.specs.Joined.{joined}
 use Rattle.document_stages.specs.Pulling.{Stays}
-use Rattle.document_printing.proofs.Fronts.{more-came}
+use Rattle.document_printing.proofs.Prefixes.{more-came}
 use Rattle.program_command.proofs.Bytewise.{Stays-byte, Stays-end, Stays-fault, Stays-nothing, cut-fault, cut-long, whole}
 use Rattle.program_command.proofs.ahead.read_ahead.Goals as goal
 

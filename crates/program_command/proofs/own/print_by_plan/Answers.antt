@@ -15,8 +15,8 @@ returns-in-Some-clause-prints g c = λ first begun own.
     let b = g.W.Sink.held c.print_own.result.0 in
     Where-map plan supply _ (λ (report : Report) (q : Supply). Printed plan first given q report a b)
     c.print_own.result.1 (λ report q known short shows.
-    let behind = begins supply q first begun known in
-    Printed-own plan first given q report a b _ _ _ c.in-Some.is (own (short plan.stages first behind.0 behind.1))
+    let following = begins supply q first begun known in
+    Printed-own plan first given q report a b _ _ _ c.in-Some.is (own (short plan.stages first following.0 following.1))
     c.table.ensures.made c.table.ensures.good shows)
     c.print_own.ensures.prints
 
@@ -29,6 +29,6 @@ returns-in-None-clause-prints g c = λ first begun own.
     let b = g.W.Sink.held c.print_fixed.result.0 in
     Where-map plan supply (λ (report : Report) (q : Supply). FixedShows plan given q report a b) (λ (report : Report) (q : Supply). Printed plan first given q report a b)
     c.print_fixed.result.1 (λ report q known short shows.
-    let behind = begins supply q first begun known in
-    Printed-fixed plan first given q report a b _ c.in-None.is (own (short plan.stages first behind.0 behind.1)) shows)
+    let following = begins supply q first begun known in
+    Printed-fixed plan first given q report a b _ c.in-None.is (own (short plan.stages first following.0 following.1)) shows)
     c.print_fixed.ensures.prints

@@ -14,17 +14,17 @@ returns-then-not-is_looked_at-clause-stays g c =
     let none : c.new.result.items ≡ [] = search rules in
     subst (λ (s : Option Supply). Stays known s) (sym (c.over.ensures ∙ ap (λ (bs : List ℕ). joined bs known) none)) (Stays-nothing known)
 
-pub returns-then-not-is_looked_at-clause-told : goal.returns-then-not-is_looked_at-clause-told
-returns-then-not-is_looked_at-clause-told g c =
+pub returns-then-not-is_looked_at-clause-reported : goal.returns-then-not-is_looked_at-clause-reported
+returns-then-not-is_looked_at-clause-reported g c =
     TellsAt-passed (asked_of c.args.job.now) c.args.looks.coding c.args.place (g.S.Source.supply c.args.text) _ (sym c.is_looked_at.ensures ∙ c.if-not-is_looked_at.true)
 
-pub returns-clause-told : goal.returns-clause-told
-returns-clause-told g c =
+pub returns-clause-reported : goal.returns-clause-reported
+returns-clause-reported g c =
     let files = (asked_of c.args.job.now).files in
     let at = c.saturating_sub-page.ensures ∙ ap (λ (n : ℕ). c.args.place - n) c.macro_count.ensures in
     let named = c.name_of.ensures ∙ ap (λ (n : ℕ). first_of (drop n files)) at in
     TellsAt-looked c.look_at_text.result (asked_of c.args.job.now) c.args.looks.coding c.args.place c.name_of.result.now (g.S.Source.supply c.args.text) _ _
-    (sym c.is_looked_at.ensures ∙ c.if-not-is_looked_at.false) named c.look_at_text.ensures.told
+    (sym c.is_looked_at.ensures ∙ c.if-not-is_looked_at.false) named c.look_at_text.ensures.reported
 
 pub returns-clause-silent : goal.returns-clause-silent
 returns-clause-silent g c = λ none. absurd (not-looked (asked_of c.args.job.now) c.args.place (sym c.is_looked_at.ensures ∙ c.if-not-is_looked_at.false) none)

@@ -18,7 +18,7 @@ returns-clause-prints g c = inr c.run_texts.ensures.passed_on
 
 pub returns-clause-comes : goal.returns-clause-comes
 returns-clause-comes g c = inr (record {
-  told = c.in-Ok.ensures.told;
+  reported = c.in-Ok.ensures.reported;
   runs = Runs-ahead (asked_of c.args.job.now) c.args.around.now c.args.with.0.coding (option_map g.F.Folder.texts c.args.with.1) _ _ c.run_texts.result.0 _ _
       (AreAhead-same (λ a. joined (drop a.taken a.first.items) (g.T.Source.supply a.rest)) _ _ _ c.deref_mut.ensures.value c.in-Ok.ensures.stay) c.run_texts.ensures.runs;
 })

@@ -4,7 +4,7 @@ use Rattle.nr_units.specs.Source.{Supply}
 use Rattle.document_stages.specs.Joined.{joined}
 use Rattle.program_options.specs.Job.{asked_of}
 use Rattle.program_command.specs.Warnings.{AreAhead, TellsTexts, heard}
-use Rattle.program_command.proofs.Warning.{ahead-more, told-more}
+use Rattle.program_command.proofs.Warning.{ahead-more, reported-more}
 use Rattle.program_command.proofs.warnings.warn_of.Goals as goal
 
 pub loop-text-preserved : goal.loop-text-preserved
@@ -22,7 +22,7 @@ loop-text-preserved g c =
           omega arith;
       ahead = ahead-more supply (λ a. joined (drop a.taken a.first.items) (supply a.rest)) at.yielded text at.all.items _ c.in_ok-ahead.ahead c.in_ok-push.ensures.items
           at.invariant.ahead c.in_ok-ahead.ensures.stays;
-      told = told-more supply (λ a. joined (drop a.taken a.first.items) (supply a.rest)) (asked_of c.args.job.now) c.args.coding at.yielded text at.all.items c.len.result _ _ _
-          (c.len.ensures ∙ at.all.ok.0) at.invariant.ahead at.invariant.told c.in_ok-ahead.ensures.told;
+      reported = reported-more supply (λ a. joined (drop a.taken a.first.items) (supply a.rest)) (asked_of c.args.job.now) c.args.coding at.yielded text at.all.items c.len.result _ _ _
+          (c.len.ensures ∙ at.all.ok.0) at.invariant.ahead at.invariant.reported c.in_ok-ahead.ensures.reported;
       silent = λ none. c.in_ok-ahead.ensures.silent none ∙ at.invariant.silent none;
     }

@@ -9,6 +9,6 @@ loop-at-preserved c =
     let text = c.args.locale.now in
     let at = c.loop-at.at in
     let rest : take (length text - at) (drop at text) ≡ drop at text = take_all (length text - at) (drop at text) (omega (arith, length-drop at text)) in
-    let told : false ≡ begins_utf8 (take (length text - at) (drop at text)) = c.if-begins_utf8.ensures in
-    let none : false ≡ begins_utf8 (drop at text) = subst (λ (t : List ℕ). false ≡ begins_utf8 t) rest told in
+    let reported : false ≡ begins_utf8 (take (length text - at) (drop at text)) = c.if-begins_utf8.ensures in
+    let none : false ≡ begins_utf8 (drop at text) = subst (λ (t : List ℕ). false ≡ begins_utf8 t) rest reported in
     c.loop-at.invariant ∙ has_utf8_next text at (omega arith) (sym none)

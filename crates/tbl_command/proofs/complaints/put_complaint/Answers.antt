@@ -8,7 +8,7 @@ use Rattle.tbl_command.proofs.complaints.put_complaint.Goals as goal
 pub returns-in_err-put_place-clause-err : goal.returns-in_err-put_place-clause-err
 returns-in_err-put_place-clause-err g c =
     let begun = rw c.format.ensures.text at c.in_err-put_place.ensures.err in
-    let told = AppendsPrefix-append _ _ _ (concat (words_of c.args.complaint.kind ∷ named_by c.args.complaint.kind ∷ codes "\n" ∷ [])) begun in
+    let reported = AppendsPrefix-append _ _ _ (concat (words_of c.args.complaint.kind ∷ named_by c.args.complaint.kind ∷ codes "\n" ∷ [])) begun in
     search rules
 
 pub returns-clause-ok : goal.returns-clause-ok

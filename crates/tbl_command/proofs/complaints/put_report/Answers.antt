@@ -6,7 +6,7 @@ use Rattle.tbl_command.proofs.complaints.put_report.Goals as goal
 
 pub returns-in_err-put_if-clause-err : goal.returns-in_err-put_if-clause-err
 returns-in_err-put_if-clause-err g c =
-    let told = AppendsPrefix-append _ _ _ (line_if c.args.report.uneven c.args.program.now c.args.name.now UNEVEN) c.in_err-put_if.ensures.err in
+    let reported = AppendsPrefix-append _ _ _ (line_if c.args.report.uneven c.args.program.now c.args.name.now UNEVEN) c.in_err-put_if.ensures.err in
     search rules
 
 pub returns-clause-ok : goal.returns-clause-ok

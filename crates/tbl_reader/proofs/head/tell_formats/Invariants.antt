@@ -6,6 +6,6 @@ use Rattle.tbl_reader.proofs.head.tell_formats.Given as goal
 abbrev pub invariant-loop-byte : goal.invariant-loop-byte
 invariant-loop-byte g l = record {
   formats : formats_after l.formats (with_newline (drop l.byte-index l.text)) ≡ formats_after l.fn.first (with_newline l.text);
-  told : (c : g.row.S.Denot) → Tells g.S.Setter.shows g.S.Setter.hears (formats_said l.formats (with_newline (drop l.byte-index l.text))) l.setter c
+  emitted : (c : g.row.S.Denot) → Tells g.S.Setter.shows g.S.Setter.hears (formats_said l.formats (with_newline (drop l.byte-index l.text))) l.setter c
       → Tells g.S.Setter.shows g.S.Setter.hears (formats_said l.fn.first (with_newline l.text)) l.fn.setter c;
 }

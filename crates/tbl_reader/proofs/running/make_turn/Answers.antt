@@ -25,7 +25,7 @@ returns-in-Ok-None-clause-turns g c =
     let gives = rw c.in-Ok-None.field-0-is at c.in-Ok-None.ensures.gives in
     let end = Came-end b d gives in
     let ended : Ended g.S.Setter.shows g.S.Setter.hears b d q c.finish.new.self now c.finish.new.setter =
-    record { came = end.0; ends = end.1; page = c.finish.ensures.page; told = c.finish.ensures.told } in
+    record { came = end.0; ends = end.1; page = c.finish.ensures.page; emitted = c.finish.ensures.emitted } in
     Ended-after g.S.Setter.shows g.S.Setter.hears (g.R.Source.supply c.args.input.now) b d c.args.reader.now q c.finish.new.self c.args.setter.now now c.finish.new.setter n
     (omega arith) c.take_at_hand-count.ensures.took ended
 

@@ -17,8 +17,8 @@ pub returns-in-Ok-choice : goal.returns-in-Ok-choice
 returns-in-Ok-choice g c =
     let choice = c.in-Ok-choice in
     let line = choice.before.now ++ choice.file.now ++ codes "\n" in
-    let is = subst (λ (front : List ℕ). IsLine c.args.name.now front line) c.as_slice.ensures.value choice.ensures in
-    chosen _ _ _ _ _ _ _ _ c.args.name.now c.first_of.new.front.items line c.put_choice.result.0 c.in-Ok-first_of.ensures.reads is c.put_choice.ensures
+    let is = subst (λ (prefix : List ℕ). IsLine c.args.name.now prefix line) c.as_slice.ensures.value choice.ensures in
+    chosen _ _ _ _ _ _ _ _ c.args.name.now c.first_of.new.prefix.items line c.put_choice.result.0 c.in-Ok-first_of.ensures.reads is c.put_choice.ensures
 
 pub returns : goal.returns
-returns g c = no-memory _ _ _ _ _ _ c.args.name.now c.first_of.new.front.items c.in-Ok-first_of.ensures.reads
+returns g c = no-memory _ _ _ _ _ _ c.args.name.now c.first_of.new.prefix.items c.in-Ok-first_of.ensures.reads

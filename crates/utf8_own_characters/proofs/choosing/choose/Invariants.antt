@@ -8,6 +8,6 @@ invariant-loop-count l = record {
   narrow_room : 128 ≤ l.narrow.capacity;
   wide_room : 4096 ≤ l.wide.capacity;
   cells : chosen (choice l.narrow.items l.wide.items) (drop l.count-index l.counts) ≡ chosen nothing l.counts;
-  told : l.told + length (left_out (choice l.narrow.items l.wide.items) (drop l.count-index l.counts)) ≡ length (left_out nothing l.counts);
-  few : l.told ≤ l.count-index;
+  reported : l.reported + length (left_out (choice l.narrow.items l.wide.items) (drop l.count-index l.counts)) ≡ length (left_out nothing l.counts);
+  few : l.reported ≤ l.count-index;
 }

@@ -10,8 +10,8 @@ returns-then-len-capacity-clause-items c =
     let full : nat_lt (length xs) room ≡ false = lt_not (length xs) room (omega arith) in
     sym (within_full room xs c.args.cluster.now (is_new 0 xs c.args.cluster.now c.requires).unknown full)
 
-pub returns-then-len-capacity-clause-told : goal.returns-then-len-capacity-clause-told
-returns-then-len-capacity-clause-told c =
+pub returns-then-len-capacity-clause-reported : goal.returns-then-len-capacity-clause-reported
+returns-then-len-capacity-clause-reported c =
     let xs = c.args.counts.now.items in let room = c.args.counts.now.capacity in
     let full : nat_lt (length xs) room ≡ false = lt_not (length xs) room (omega arith) in
     sym (or_none (is_counted xs c.args.cluster.now) (nat_lt (length xs) room) (is_new 0 xs c.args.cluster.now c.requires).unknown full)

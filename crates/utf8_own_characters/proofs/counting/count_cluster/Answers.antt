@@ -27,8 +27,8 @@ returns-in-Some-clause-once c =
     subst P (sym (c.raise.ensures.items k.count k.there ∙ sym (within_known c.args.counts.now.capacity xs cl k.known ∙ k.raises)))
     (once_within c.args.counts.now.capacity xs cl c.requires)
 
-pub returns-in-Some-clause-told : goal.returns-in-Some-clause-told
-returns-in-Some-clause-told c =
+pub returns-in-Some-clause-reported : goal.returns-in-Some-clause-reported
+returns-in-Some-clause-reported c =
     let cl = c.args.cluster.now in let xs = c.args.counts.now.items in
     let e = sym (ap (λ (ys : List Count). count_from 0 ys cl) c.as_slice.ensures.value) ∙ (sym c.place_in-found.ensures ∙ c.in-Some.is) in
     let k = known_at xs cl c.in-Some.place e in

@@ -19,13 +19,13 @@ pub returns : goal.returns
 returns g c =
     let t = c.args.self.now in
     let before = was_ruled t.grid c.args.row c.args.column in
-    let behind = is_ruled t.grid c.args.row c.args.column in
+    let following = is_ruled t.grid c.args.row c.args.column in
     let bars = bars_seen t.grid c.args.row c.args.column in
     let some : 0 < bars = omega (arith, c.bars_seen-bars.ensures) in
     draws_same c.draw_some_bars.ensures
-    (some_of bars (bars_as t c.args.column (bar_byte t c.args.row before behind) before bars) some
-    ∙ ap (λ (n : ℕ). bars_as t c.args.column (bar_byte t c.args.row before behind) before n) (sym c.bars_seen-bars.ensures)
-    ∙ ap (λ (b : Bool). bars_as t c.args.column (bar_byte t c.args.row b behind) b c.bars_seen-bars.result) (sym c.was_ruled-was.ensures)
+    (some_of bars (bars_as t c.args.column (bar_byte t c.args.row before following) before bars) some
+    ∙ ap (λ (n : ℕ). bars_as t c.args.column (bar_byte t c.args.row before following) before n) (sym c.bars_seen-bars.ensures)
+    ∙ ap (λ (b : Bool). bars_as t c.args.column (bar_byte t c.args.row b following) b c.bars_seen-bars.result) (sym c.was_ruled-was.ensures)
     ∙ ap (λ (b : Bool). bars_as t c.args.column (bar_byte t c.args.row c.was_ruled-was.result b) c.was_ruled-was.result c.bars_seen-bars.result)
     (sym c.is_ruled-now.ensures)
     ∙ ap (λ (b : ℕ). bars_as t c.args.column b c.was_ruled-was.result c.bars_seen-bars.result) (sym c.bar_byte.ensures))

@@ -14,11 +14,11 @@ returns-then-most_meeting-eq0 g c =
     let l = c.args.self.now in
     let t = l.grid in
     let last = columns t in
-    let behind = c.len-columns.result in
+    let following = c.len-columns.result in
     let is : meeting t c.args.above c.args.below last ≡ c.most_meeting.result =
     ap (λ (n : ℕ). meeting t c.args.above c.args.below n) (sym c.len-columns.ensures.value)
-    ∙ ap (λ (n : ℕ). max (max n (bars_at t c.args.below behind)) (framing_at t behind)) (sym c.bars_at-up.ensures)
-    ∙ ap (λ (n : ℕ). max (max c.bars_at-up.result n) (framing_at t behind)) (sym c.bars_at-down.ensures)
+    ∙ ap (λ (n : ℕ). max (max n (bars_at t c.args.below following)) (framing_at t following)) (sym c.bars_at-up.ensures)
+    ∙ ap (λ (n : ℕ). max (max c.bars_at-up.result n) (framing_at t following)) (sym c.bars_at-down.ensures)
     ∙ sym c.most_meeting.ensures in
     strokes_chosen (meeting t c.args.above c.args.below last == 0) (bars (crossing_byte l c.args.above c.args.below last) 1)
     (draws_same c.go.ensures
@@ -31,11 +31,11 @@ returns g c =
     let l = c.args.self.now in
     let t = l.grid in
     let last = columns t in
-    let behind = c.len-columns.result in
+    let following = c.len-columns.result in
     let is : meeting t c.args.above c.args.below last ≡ c.most_meeting.result =
     ap (λ (n : ℕ). meeting t c.args.above c.args.below n) (sym c.len-columns.ensures.value)
-    ∙ ap (λ (n : ℕ). max (max n (bars_at t c.args.below behind)) (framing_at t behind)) (sym c.bars_at-up.ensures)
-    ∙ ap (λ (n : ℕ). max (max c.bars_at-up.result n) (framing_at t behind)) (sym c.bars_at-down.ensures)
+    ∙ ap (λ (n : ℕ). max (max n (bars_at t c.args.below following)) (framing_at t following)) (sym c.bars_at-up.ensures)
+    ∙ ap (λ (n : ℕ). max (max c.bars_at-up.result n) (framing_at t following)) (sym c.bars_at-down.ensures)
     ∙ sym c.most_meeting.ensures in
     let some : 0 < meeting t c.args.above c.args.below last = omega (arith, is) in
     draws_same c.bars.ensures

@@ -12,8 +12,8 @@ overflow_add-self g c =
     let here : c.self.inside.state.line ≡ (line_ended_in p.state.mode p).page.state.line = ap (λ (x : Page). x.state.line) (c.self.view_is ∙ c.line_ends.ensures.page) in
     omega (arith, stays, here)
 
-pub returns-clause-told : goal.returns-clause-told
-returns-clause-told g c =
+pub returns-clause-emitted : goal.returns-clause-emitted
+returns-clause-emitted g c =
     let p = c.args.self.now in
     subst (λ (ps : List Piece). Tells g.S.Setter.shows g.S.Setter.hears ps c.args.setter.now c.line_ends.new.setter) (sym (append-nil (line_ended_in p.state.mode p).pieces))
-    c.line_ends.ensures.told
+    c.line_ends.ensures.emitted

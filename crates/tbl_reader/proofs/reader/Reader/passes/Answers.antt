@@ -5,4 +5,4 @@ use Rattle.tbl_reader.proofs.reader.Reader.passes.Goals as goal
 pub returns : goal.returns
 returns g c =
     took_byte g.S.Setter.shows g.S.Setter.hears c.args.bytes.now _ c.args.start c.args.self.now c.passes_byte.new.self c.args.setter.now c.passes_byte.new.setter
-    c.requires.mode c.requires.some refl c.requires.fits c.passes_byte.ensures.page c.passes_byte.ensures.told
+    c.requires.mode c.requires.some refl c.requires.fits c.passes_byte.ensures.page c.passes_byte.ensures.emitted

@@ -8,8 +8,8 @@ use Rattle.tbl_reader.specs.Telling.{piece, each}
 use Rattle.tbl_reader.proofs.Hearing.{tells_append, each_same}
 use Rattle.tbl_reader.proofs.reader.Reader.row_overflows.Goals as goal
 
-pub returns-clause-told : goal.returns-clause-told
-returns-clause-told g c =
+pub returns-clause-emitted : goal.returns-clause-emitted
+returns-clause-emitted g c =
     let p = c.args.self.now in
     let rest = each_same g.S.Setter.shows g.S.Setter.hears tells.Pass c.rest.result.now (rest_of p) c.tell-2.new.self c.tell-3.new.self c.rest.ensures c.tell-3.ensures in
     tells_append g.S.Setter.shows g.S.Setter.hears (row_so_far p.state)

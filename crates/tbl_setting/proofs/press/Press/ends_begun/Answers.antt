@@ -2,7 +2,7 @@ use Rattle.std.proofs.Common.{[], sym, ◌∙◌, refl, false, true}
 use Rattle.tbl_setting.specs.Held.{table_strokes}
 use Rattle.tbl_drawing.specs.Held.{has_begun}
 use Rattle.tbl_drawing.proofs.Chosen.{nothing_chosen}
-use Rattle.tbl_setting.proofs.Pieces.{chosen_told, nothing_told}
+use Rattle.tbl_setting.proofs.Pieces.{chosen_reported, nothing_reported}
 use Rattle.tbl_setting.specs.Setting.{wide_reported}
 use Rattle.tbl_setting.proofs.press.Press.ends_begun.Goals as goal
 
@@ -14,9 +14,9 @@ returns-else-has_begun-clause-draws g c =
 pub returns-else-has_begun-clause-notes : goal.returns-else-has_begun-clause-notes
 returns-else-has_begun-clause-notes g c =
     let t = c.args.self.now.setting.now in
-    chosen_told false (has_begun t.layout) (wide_reported t) [] (sym c.has_begun.ensures ∙ c.if-has_begun.false) (nothing_told (refl, refl))
+    chosen_reported false (has_begun t.layout) (wide_reported t) [] (sym c.has_begun.ensures ∙ c.if-has_begun.false) (nothing_reported (refl, refl))
 
 pub returns-then-has_begun-clause-notes : goal.returns-then-has_begun-clause-notes
 returns-then-has_begun-clause-notes g c =
     let t = c.args.self.now.setting.now in
-    chosen_told true (has_begun t.layout) (wide_reported t) [] (sym c.has_begun.ensures ∙ c.if-has_begun.true) c.end_table.ensures.notes
+    chosen_reported true (has_begun t.layout) (wide_reported t) [] (sym c.has_begun.ensures ∙ c.if-has_begun.true) c.end_table.ensures.notes

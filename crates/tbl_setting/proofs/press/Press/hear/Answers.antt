@@ -1,5 +1,5 @@
 use Rattle.std.proofs.Common.{ap, refl, ◌∙◌}
-use Rattle.tbl_setting.proofs.Pieces.{becomes_for, drawn_for, line_becomes, line_drawn, line_told, told_for}
+use Rattle.tbl_setting.proofs.Pieces.{becomes_for, drawn_for, line_becomes, line_drawn, line_reported, reported_for}
 use Rattle.tbl_setting.proofs.Held.{table_becomes}
 use Rattle.tbl_setting.specs.Held.{table}
 use Rattle.tbl_table.specs.declared.table.Form.{Form}
@@ -30,10 +30,10 @@ pub returns-in-Request-clause-setting : goal.returns-in-Request-clause-setting
 returns-in-Request-clause-setting g c = line_becomes _ _ _ _ _ _ c.in-Request.is refl c.ends_line-in-Request.ensures.setting
 
 pub returns-in-Row-clause-notes : goal.returns-in-Row-clause-notes
-returns-in-Row-clause-notes g c = line_told _ _ _ c.in-Row.is refl c.ends_line.ensures.complaints
+returns-in-Row-clause-notes g c = line_reported _ _ _ c.in-Row.is refl c.ends_line.ensures.complaints
 
 pub returns-in-Request-clause-notes : goal.returns-in-Request-clause-notes
-returns-in-Request-clause-notes g c = line_told _ _ _ c.in-Request.is refl c.ends_line-in-Request.ensures.complaints
+returns-in-Request-clause-notes g c = line_reported _ _ _ c.in-Request.is refl c.ends_line-in-Request.ensures.complaints
 
 pub returns-in-Formats-clause-setting : goal.returns-in-Formats-clause-setting
 returns-in-Formats-clause-setting g c =
@@ -72,16 +72,16 @@ returns-in-Mark-clause-setting g c =
     (table_becomes _ _ c.add_mark.new.self _ refl refl (c.add_mark.ensures.value ∙ ap (λ (f : Form). mark_added f (table s)) c.form_of.ensures) c.add_mark.ensures.room)
 
 pub returns-in-TableEnd-clause-notes : goal.returns-in-TableEnd-clause-notes
-returns-in-TableEnd-clause-notes g c = told_for _ _ _ c.in-TableEnd.is c.end_table.ensures.notes
+returns-in-TableEnd-clause-notes g c = reported_for _ _ _ c.in-TableEnd.is c.end_table.ensures.notes
 
 pub returns-in-Plain-clause-notes : goal.returns-in-Plain-clause-notes
-returns-in-Plain-clause-notes g c = told_for _ _ _ c.in-Plain.is c.stands.ensures.notes
+returns-in-Plain-clause-notes g c = reported_for _ _ _ c.in-Plain.is c.stands.ensures.notes
 
 pub returns-in-Rule-clause-notes : goal.returns-in-Rule-clause-notes
-returns-in-Rule-clause-notes g c = line_told _ _ _ c.in-Rule.is refl c.ends_line-in-Rule.ensures.complaints
+returns-in-Rule-clause-notes g c = line_reported _ _ _ c.in-Rule.is refl c.ends_line-in-Rule.ensures.complaints
 
 pub returns-in-Wrong-clause-notes : goal.returns-in-Wrong-clause-notes
-returns-in-Wrong-clause-notes g c = told_for _ _ _ c.in-Wrong.is c.hear_wrong.ensures.notes
+returns-in-Wrong-clause-notes g c = reported_for _ _ _ c.in-Wrong.is c.hear_wrong.ensures.notes
 
 pub returns-in-Wrong-clause-setting : goal.returns-in-Wrong-clause-setting
 returns-in-Wrong-clause-setting g c = becomes_for _ _ _ _ _ _ c.in-Wrong.is c.hear_wrong.ensures.setting

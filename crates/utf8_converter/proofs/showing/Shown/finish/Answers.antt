@@ -1,7 +1,7 @@
 -- Where a put failed nothing more goes out; else what waits and the end do.
 use Rattle.std.proofs.Common.{sym, ◌∙◌, ap}
 use Rattle.utf8_converter.proofs.Finishing.{ends, ends-broken, ends-short}
-use Rattle.utf8_converter.specs.Showing.{Making, Told}
+use Rattle.utf8_converter.specs.Showing.{Making, ShownSoFar}
 use Rattle.utf8_converter.proofs.showing.Shown.finish.Goals as goal
 
 pub returns-then-broken-clause-shown : goal.returns-then-broken-clause-shown
@@ -11,7 +11,7 @@ returns-then-broken-clause-shown g c m came is =
     let failed = g.W.Sink.failures in
     let own : Making = record { table = s.table; escapes = s.escapes; begun = held s.begun.value; failed = (failed s.begun.value).puts } in
     ends-broken s.broken own m s.came.bytes came c.args.self.bytes (held s.output) (failed s.output).puts s.waiting.turner.reader s.waiting.out.items s.waiting.turner.strays
-    c.if-broken.true s.stands (ap (λ (t : Told). t.bytes) c.self.view_is) is
+    c.if-broken.true s.stands (ap (λ (t : ShownSoFar). t.bytes) c.self.view_is) is
 
 pub returns-then-broken-clause-broke : goal.returns-then-broken-clause-broke
 returns-then-broken-clause-broke g c m came more is some =
@@ -20,7 +20,7 @@ returns-then-broken-clause-broke g c m came more is some =
     let failed = g.W.Sink.failures in
     let own : Making = record { table = s.table; escapes = s.escapes; begun = held s.begun.value; failed = (failed s.begun.value).puts } in
     ends-short s.broken own m s.came.bytes came more c.args.self.bytes (held s.output) (failed s.output).puts s.waiting.turner.reader s.waiting.out.items s.waiting.turner.strays
-    c.if-broken.true s.stands (ap (λ (t : Told). t.bytes) c.self.view_is) is
+    c.if-broken.true s.stands (ap (λ (t : ShownSoFar). t.bytes) c.self.view_is) is
 
 pub returns-clause-shown : goal.returns-clause-shown
 returns-clause-shown g c m came is =
@@ -30,11 +30,11 @@ returns-clause-shown g c m came is =
     let own : Making = record { table = s.table; escapes = s.escapes; begun = held s.begun.value; failed = (failed s.begun.value).puts } in
     let e = c.close-strays.ensures in
     ends s.broken own m s.came.bytes came c.args.self.bytes (held s.output) (held c.close-strays.new.output) (failed s.output) (failed c.close-strays.new.output)
-    s.waiting.turner.reader s.waiting.out.items s.waiting.turner.strays c.close-strays.result c.if-broken.false s.stands (ap (λ (t : Told). t.bytes) c.self.view_is) is e.ok e.err e.strays e.failures
+    s.waiting.turner.reader s.waiting.out.items s.waiting.turner.strays c.close-strays.result c.if-broken.false s.stands (ap (λ (t : ShownSoFar). t.bytes) c.self.view_is) is e.ok e.err e.strays e.failures
 
 pub returns-clause-broke : goal.returns-clause-broke
 returns-clause-broke g c m came more is some =
-    absurd (some (sym (ap (λ (t : Told). t.failures.puts) c.self.view_is) ∙ c.self.inside.counts c.if-broken.false))
+    absurd (some (sym (ap (λ (t : ShownSoFar). t.failures.puts) c.self.view_is) ∙ c.self.inside.counts c.if-broken.false))
 
 pub returns-clause-fails : goal.returns-clause-fails
-returns-clause-fails g c ok = sym (ap (λ (t : Told). t.failures.puts) c.self.view_is) ∙ c.self.inside.counts c.if-broken.false
+returns-clause-fails g c ok = sym (ap (λ (t : ShownSoFar). t.failures.puts) c.self.view_is) ∙ c.self.inside.counts c.if-broken.false

@@ -1,6 +1,6 @@
 use Rattle.std.proofs.Common.{ℕ, List, [], true, false, ◌≡◌, ◌++◌, refl, sym, ◌∙◌, ap, subst, append-nil, append_assoc}
 use Rattle.utf8_converter.proofs.Passing.{broken-more, call-breaks, call-on}
-use Rattle.utf8_converter.specs.Showing.{Broke, Making, Told, made_of}
+use Rattle.utf8_converter.specs.Showing.{Broke, Making, ShownSoFar, made_of}
 use Rattle.utf8_converter.proofs.showing.ShownSink.put.Goals as goal
 use Rattle.utf8_converter.proofs.showing.ShownSink.put.Goals.{then-self-via-then-self, then-self-via-else-self+then-is_err}
 
@@ -32,7 +32,7 @@ returns-then-self-clause-err g c =
       c.args.bytes.now,
       [],
       sym (append-nil c.args.bytes.now),
-      ap (λ (xs : List ℕ). made_of m ++ xs) c.note.ensures ∙ sym (append_assoc (made_of m) s.came.bytes c.args.bytes.now) ∙ ap (λ (xs : List ℕ). xs ++ c.args.bytes.now) (ap (λ (t : Told). t.bytes) c.self.view_is),
+      ap (λ (xs : List ℕ). made_of m ++ xs) c.note.ensures ∙ sym (append_assoc (made_of m) s.came.bytes c.args.bytes.now) ∙ ap (λ (xs : List ℕ). xs ++ c.args.bytes.now) (ap (λ (t : ShownSoFar). t.bytes) c.self.view_is),
     )
 
 pub invariant_of-self-inside-then-not-is_empty : goal.invariant_of-self-inside-then-not-is_empty

@@ -4,7 +4,7 @@ use Rattle.utf8_converter.specs.declared.reader.Half.{Half}
 use Rattle.utf8_converter.specs.declared.reader.Reader.{Reader}
 use Rattle.utf8_converter.specs.Reading.{with_half}
 use Rattle.utf8_converter.specs.Spelling.{Reads, Spells, half_text}
-use Rattle.utf8_converter.proofs.Goes.{Goes-serves, Reads-few, Reads-front}
+use Rattle.utf8_converter.proofs.Goes.{Goes-serves, Reads-few, Reads-prefix}
 use Rattle.utf8_converter.proofs.Held.{released-table}
 use Rattle.utf8_converter.proofs.spelling.Spelling.read_cells.Goals as goal
 
@@ -46,7 +46,7 @@ returns-clause-reads c =
     let long = c.put_all-reached.auto.room in
     let same = c.release-begun.auto.room in
     let some : 0 < length c.args.bytes.now = omega arith in
-    let reads = Reads-front c.args.reader.now c.release-begun.new.reader s c.args.bytes.now c.put_all-reached.result.taken c.args.room.now c.release-begun.new.room c.put_all-reached.new.room
+    let reads = Reads-prefix c.args.reader.now c.release-begun.new.reader s c.args.bytes.now c.put_all-reached.result.taken c.args.room.now c.release-begun.new.room c.put_all-reached.new.room
     c.release-begun.result.end c.put_all-reached.result.end c.release-begun.result.strays (omega arith) some (sym c.begins.ensures ∙ c.if-not-begins.false) c.release-begun.ensures.fills
     c.put_all-reached.ensures.goes (omega (arith, room, few, long, same)) in
     let P : Half → Type 0 = λ h. Reads c.args.reader.now (with_half h s) c.args.bytes.now c.put_all-reached.result.taken c.put_all-reached.new.room (c.put_all-reached.result.end - length (half_text s.table h)) in

@@ -5,7 +5,7 @@ use Rattle.nr_units.specs.Sink.{AppendsPrefix}
 use Rattle.utf8_converter.specs.Reading.{fed}
 use Rattle.utf8_converter.specs.Showing.{Reads}
 use Rattle.utf8_converter.proofs.Goes.{rest-of}
-use Rattle.utf8_converter.proofs.Passing.{All-err, Front-then, Reads-none, Reads-then, counted-err}
+use Rattle.utf8_converter.proofs.Passing.{All-err, Prefix-then, Reads-none, Reads-then, counted-err}
 use Rattle.utf8_converter.proofs.waiting.Waiting.take_all.Goals as goal
 
 pub loop-at-init : goal.loop-at-init
@@ -25,11 +25,11 @@ returns-in_err-at-clause-takes g c =
     let waits = c.args.self.now.out.items in
     let P : List ℕ → Type 0 = λ xs. AppendsPrefix (g.W.Sink.held c.loop-at.output) new (c.loop-at.self.out.items ++ (fed c.loop-at.self.turner.reader xs).bytes) in
     let Q : List ℕ → Type 0 = λ xs. AppendsPrefix held new (waits ++ (fed c.args.self.now.turner.reader xs).bytes) in
-    let front = subst P (rest-of bytes at) c.in_err-at.ensures.takes in
+    let prefix = subst P (rest-of bytes at) c.in_err-at.ensures.takes in
     All-err c.from_residual.result held new c.args.self.now.turner.reader c.take_some.new.self.turner.reader waits c.take_some.new.self.out.items c.args.self.now.turner.strays c.take_some.new.self.turner.strays bytes c.from_residual.ensures.0
     (subst Q (take-append-drop at bytes)
-    (Front-then held (g.W.Sink.held c.loop-at.output) new c.args.self.now.turner.reader c.loop-at.self.turner.reader waits c.loop-at.self.out.items c.args.self.now.turner.strays c.loop-at.self.turner.strays (take at bytes) (drop at bytes)
-    c.loop-at.invariant.takes front))
+    (Prefix-then held (g.W.Sink.held c.loop-at.output) new c.args.self.now.turner.reader c.loop-at.self.turner.reader waits c.loop-at.self.out.items c.args.self.now.turner.strays c.loop-at.self.turner.strays (take at bytes) (drop at bytes)
+    c.loop-at.invariant.takes prefix))
 
 pub returns-in_err-at-clause-failures : goal.returns-in_err-at-clause-failures
 returns-in_err-at-clause-failures g c =

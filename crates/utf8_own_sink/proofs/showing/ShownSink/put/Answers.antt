@@ -1,8 +1,8 @@
 use Rattle.std.proofs.Common.{ℕ, List, [], Bool, true, false, ◌≡◌, ◌++◌, refl, sym, ◌∙◌, ap, subst, append-nil}
 use Rattle.utf8_own_sink.proofs.Passing.{broken-more, call-breaks, call-on}
-use Rattle.utf8_converter.specs.Showing.{Told}
-use Rattle.utf8_own_sink.specs.Showing.{Broke, Making, told}
-use Rattle.utf8_own_sink.proofs.Finishing.{told-append}
+use Rattle.utf8_converter.specs.Showing.{ShownSoFar}
+use Rattle.utf8_own_sink.specs.Showing.{Broke, Making, emitted}
+use Rattle.utf8_own_sink.proofs.Finishing.{emitted-append}
 use Rattle.utf8_own_sink.proofs.showing.ShownSink.put.Goals as goal
 use Rattle.utf8_own_sink.proofs.showing.ShownSink.put.Goals.{then-self-via-then-self, then-self-via-else-self+then-is_err}
 
@@ -34,7 +34,7 @@ returns-then-self-clause-err g c =
       c.args.bytes.now,
       [],
       sym (append-nil c.args.bytes.now),
-      ap (λ (xs : List ℕ). told m xs) c.note.ensures ∙ told-append m s.came.bytes c.args.bytes.now ∙ ap (λ (xs : List ℕ). xs ++ c.args.bytes.now) (ap (λ (t : Told). t.bytes) c.self.view_is),
+      ap (λ (xs : List ℕ). emitted m xs) c.note.ensures ∙ emitted-append m s.came.bytes c.args.bytes.now ∙ ap (λ (xs : List ℕ). xs ++ c.args.bytes.now) (ap (λ (t : ShownSoFar). t.bytes) c.self.view_is),
     )
 
 pub invariant_of-self-inside-then-not-is_empty : goal.invariant_of-self-inside-then-not-is_empty
@@ -65,4 +65,4 @@ pub returns-then-not-is_empty-clause-ok : goal.returns-then-not-is_empty-clause-
 returns-then-not-is_empty-clause-ok g c =
     let s = c.self.inside in
     let m : Making = record { table = s.table.now; escapes = s.escapes; begun = g.W.Sink.held s.begun.value; failed = (g.W.Sink.failures s.begun.value).puts } in
-    ap (λ (xs : List ℕ). told m xs) c.note.ensures ∙ told-append m s.came.bytes c.args.bytes.now ∙ ap (λ (xs : List ℕ). xs ++ c.args.bytes.now) (ap (λ (t : Told). t.bytes) c.self.view_is)
+    ap (λ (xs : List ℕ). emitted m xs) c.note.ensures ∙ emitted-append m s.came.bytes c.args.bytes.now ∙ ap (λ (xs : List ℕ). xs ++ c.args.bytes.now) (ap (λ (t : ShownSoFar). t.bytes) c.self.view_is)

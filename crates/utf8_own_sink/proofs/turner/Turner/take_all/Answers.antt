@@ -3,7 +3,7 @@ use Rattle.std.specs.Prelude.{slice_index}
 use Rattle.std.proofs.lemmas.List.{take_all}
 use Rattle.utf8_converter.proofs.Passing.{counted-err}
 use Rattle.utf8_own_sink.specs.Showing.{Reads}
-use Rattle.utf8_own_sink.proofs.Passing.{Front-more, Reads-more, Reads-none, Takes-err}
+use Rattle.utf8_own_sink.proofs.Passing.{Prefix-more, Reads-more, Reads-none, Takes-err}
 use Rattle.utf8_own_sink.proofs.turner.Turner.take_all.Goals as goal
 
 pub loop-byte-init : goal.loop-byte-init
@@ -31,7 +31,7 @@ returns-in_err-take-clause-takes g c =
     let r = c.args.self.now.reader in
     let p = c.args.self.now.out.items in
     Takes-err c.args.table.now c.from_residual.result a d r c.take.new.self.reader p c.take.new.self.out.items bytes c.from_residual.ensures.0
-    (Front-more c.args.table.now a (g.W.Sink.held c.loop-byte.output) d r c.loop-byte.self.reader p c.loop-byte.self.out.items bytes i (slice_index bytes i) (omega (arith, c.loop-byte-test.true)) refl
+    (Prefix-more c.args.table.now a (g.W.Sink.held c.loop-byte.output) d r c.loop-byte.self.reader p c.loop-byte.self.out.items bytes i (slice_index bytes i) (omega (arith, c.loop-byte-test.true)) refl
     c.loop-byte.invariant.takes c.in_err-take.ensures.takes)
 
 pub returns-in_err-take-clause-failures : goal.returns-in_err-take-clause-failures

@@ -1,6 +1,0 @@
-use Rattle.std.proofs.Common.{refl}
-use Rattle.program_command.proofs.own.count_front.Goals as goal
-
-pub returns-clause-counted : goal.returns-clause-counted
-returns-clause-counted c short few =
-    c.counted.ensures.items _ (c.read_page-text.ensures.whole _ c.over.ensures.supply refl short) refl few
