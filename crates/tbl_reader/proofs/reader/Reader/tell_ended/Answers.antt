@@ -1,6 +1,6 @@
 use Rattle.std.proofs.Common.{◌≡◌, ℕ, ◌+◌, ◌-◌, None, Some, ap, subst, arith}
 use Rattle.tbl_reader.specs.Pages.{Page}
-use Rattle.tbl_reader.proofs.Fielding.{Emitted, emitted_first, emitted_more, emitted_all, found_next}
+use Rattle.tbl_reader.proofs.Fielding.{FieldsEmitted, emitted_first, emitted_more, emitted_all, found_next}
 use Rattle.tbl_reader.proofs.reader.Reader.tell_ended.Goals as goal
 
 pub loop-init : goal.loop-init
@@ -9,7 +9,7 @@ loop-init g c =
     let same : c.self.inside.state.fields ≡ p.state.fields = ap (λ (x : Page). x.state.fields) c.self.view_is in
     let zero_is : 0 ≡ c.self.inside.state.fields - p.state.fields = omega (arith, same) in
     record {
-      emitted = subst (λ (k : ℕ). Emitted g.S.Setter.shows g.S.Setter.hears k p p c.args.setter.now c.args.setter.now) zero_is
+      emitted = subst (λ (k : ℕ). FieldsEmitted g.S.Setter.shows g.S.Setter.hears k p p c.args.setter.now c.args.setter.now) zero_is
           (emitted_first g.S.Setter.shows g.S.Setter.hears p c.args.setter.now);
       from = omega (arith, same);
       few = omega (arith, same);
@@ -28,7 +28,7 @@ loop-preserved g c =
     let e = found_next q c.self-in-loop.inside.state.options.tab c.line.result.now c.place_of.result (Some c.in-Some.len) c.place_of.ensures.value tab c.line.ensures c.in-Some.is in
     let more : k + 1 ≡ c.loop.counter + 1 - p.state.fields = omega (arith, from) in
     record {
-      emitted = subst (λ (n : ℕ). Emitted g.S.Setter.shows g.S.Setter.hears n p c.tell_ended_at.new.self c.args.setter.now c.tell_ended_at.new.setter) more
+      emitted = subst (λ (n : ℕ). FieldsEmitted g.S.Setter.shows g.S.Setter.hears n p c.tell_ended_at.new.self c.args.setter.now c.tell_ended_at.new.setter) more
           (emitted_more g.S.Setter.shows g.S.Setter.hears k c.in-Some.len p q c.tell_ended_at.new.self c.args.setter.now c.loop.setter c.tell_ended_at.new.setter
           c.loop.invariant.emitted e c.tell_ended_at.ensures.page c.tell_ended_at.ensures.emitted);
       from = omega (arith, from);
@@ -54,5 +54,5 @@ returns g c =
     let end = c.loop.invariant.end in
     let test = c.loop-test.false in
     let same : c.loop.counter - p.state.fields ≡ p.state.formats.columns - p.state.fields = omega (arith, from, few, end, test) in
-    let all = subst (λ (n : ℕ). Emitted g.S.Setter.shows g.S.Setter.hears n p c.loop.self c.args.setter.now c.loop.setter) same c.loop.invariant.emitted in
+    let all = subst (λ (n : ℕ). FieldsEmitted g.S.Setter.shows g.S.Setter.hears n p c.loop.self c.args.setter.now c.loop.setter) same c.loop.invariant.emitted in
     record { page = all.page; emitted = all.emitted }
