@@ -36,7 +36,7 @@ pub more-came : (known mid new : Option Supply) (xs ys all : List ℕ) → Stays
 more-came known mid new xs ys all first next is =
     subst (λ (z : Option Supply). Stays known z) (sym (ap (λ (zs : List ℕ). joined zs new) is ∙ joined_more xs ys new)) (further known mid new xs ys first next)
 
--- the bytes that came were put behind those that were there
+-- the bytes that came were put after those that were there
 pub taken-more : (a n k : ℕ) (xs ys : List ℕ) → a ≤ length xs → n ≤ length ys → take (a + n) (put_mid a k xs ys) ≡ take a xs ++ take n ys
 taken-more a n k xs ys within few =
     let near : take (a + n) (put_mid a k xs ys) ≡ take (a + n) (take (a + length ys) (put_mid a k xs ys)) = sym (take-take (a + n) (a + length ys) (put_mid a k xs ys) (omega (arith, few))) in

@@ -21,7 +21,7 @@ use Rattle.document_printing.specs.Document.{Prints, Ran, Setting, TellsWrites, 
 text-one : (pages : List Ended) (page : Ended) → text (pages ++ page ∷ []) ≡ text pages ++ bytes_of page
 text-one pages page = flat_map-append bytes_of pages (page ∷ []) ∙ ap (λ z. text pages ++ z) (append-nil (bytes_of page))
 
--- a front of what the next move makes of the pages
+-- a prefix of what the next move makes of the pages
 next_prefix : (s : State) (held new : Option (List ℕ)) → run.BreaksOff s held new → AppendsPrefix held new (text (step s).pages)
 next_prefix s held new b =
     subst (λ (z : List ℕ). AppendsPrefix held new z) (sym (text-one s.pages b.page) ∙ sym (ap text b.ends))

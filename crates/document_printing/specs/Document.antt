@@ -85,7 +85,7 @@ Prints s source n outcomes.ReadFault held new = Appends held new (pages_of s sou
 Prints s source n outcomes.TooLong held new = Appends held new (pages_of s source n)
 Prints s source n outcomes.WriteFault held new = AppendsPrefix held new (pages_of s source (suc n))
 
--- One put failed where that is told, and none where all went out, by the counts of those that did.
+-- One put failed where that is reported, and none where all went out, by the counts of those that did.
 abbrev pub TellsWrites : Outcome → ℕ → ℕ → Type 0
 TellsWrites outcomes.WriteFault before after = after ≡ next_count before
 TellsWrites outcomes.ReadFault before after = Unit {0}
@@ -105,7 +105,7 @@ setting_of setup tables limits = record {
   options = setup.options.now;
 }
 
--- how the formatter's end is told of a page whose tables have no room, or have
+-- how the formatter's end is reported of a page whose tables have no room, or have
 abbrev pub reported : machine.Outcome → Bool → Outcome
 reported machines.Done full = outcomes.Done
 reported (machines.Limit which at) full = outcomes.Limit which at

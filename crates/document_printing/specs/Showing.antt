@@ -51,13 +51,13 @@ Shows s spelling source n outcomes.ReadFault held new = AppendsPrefix held new (
 Shows s spelling source n outcomes.TooLong held new = AppendsPrefix held new (document s spelling source n)
 Shows s spelling source n outcomes.WriteFault held new = IsPrefix s spelling source n held new
 
--- how an end is told of a page whose characters did not all go out: that its input failed first
+-- how an end is reported of a page whose characters did not all go out: that its input failed first
 abbrev pub cut_short : Outcome → Outcome
 cut_short outcomes.ReadFault = outcomes.ReadFault
 cut_short outcomes.TooLong = outcomes.TooLong
 cut_short outcome = outcomes.WriteFault
 
--- how an end is told of a page whose characters went out, or the output failed
+-- how an end is reported of a page whose characters went out, or the output failed
 abbrev pub reported_shown : Outcome → Bool → Outcome
 reported_shown outcome false = outcome
 reported_shown outcome true = cut_short outcome

@@ -15,7 +15,7 @@ use nr_units::source::Source;
 use tbl_setting::Complaint;
 use tbl_stage::Rooms;
 
-/// How the formatter's end is told of a page whose tables have no room, or have.
+/// How the formatter's end is reported of a page whose tables have no room, or have.
 fn reported(outcome: nr_engine::Outcome, full: bool) -> Outcome
     ensures { result ≡ specs.reported outcome full }
 {
@@ -34,7 +34,7 @@ fn reported(outcome: nr_engine::Outcome, full: bool) -> Outcome
     }
 }
 
-/// What the formatter came to is told.
+/// What the formatter came to is reported.
 fn report_of(pulled: Pulled) -> Report
     ensures outcome { result.outcome ≡ specs.reported pulled.outcome pulled.tables.full }
     ensures moves { result.moves ≡ pulled.moves }
@@ -84,7 +84,7 @@ pub fn print<R: Source + Drop, W: Sink>(
         Prints (setting_of setup.now (bounds_in rooms.old) desk.old)
         (source_so_far (setting_of setup.now (bounds_in rooms.old) desk.old) (take n q.bytes))
         result.moves result.outcome (W.held output.old) (W.held output.new) }
-    // A write fault is told where a put failed, and nowhere else.
+    // A write fault is reported where a put failed, and nowhere else.
     ensures write_faults { TellsWrites result.outcome (W.failures output.old).puts (W.failures output.new).puts }
 {
     if setup.tables {

@@ -15,7 +15,7 @@ use nr_engine::{Desk, Outcome, format};
 use nr_units::sink::Sink;
 use nr_units::source::Source;
 
-/// What is told of tables.
+/// What is reported of tables.
 #[derive(Clone, Copy)]
 pub(crate) struct SetTables {
     /// What goes out of one at once has no room.

@@ -41,7 +41,7 @@ pub enum Outcome {
     WriteFault,
 }
 
-/// How a page ended, and what is told beside it.
+/// How a page ended, and what is reported beside it.
 #[derive(Clone, Copy, Debug, PartialEq, Eq)]
 pub struct Report {
     /// How it ended.

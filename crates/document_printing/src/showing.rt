@@ -54,7 +54,7 @@ pub struct Showing<'a> {
     pub spelling: Spelling<'a>,
 }
 
-/// How a page ended whose characters did not all go out. That its input failed is told first.
+/// How a page ended whose characters did not all go out. That its input failed is reported first.
 fn cut_short(outcome: Outcome) -> Outcome
     ensures { result ≡ specs.cut_short outcome }
 {
@@ -107,7 +107,7 @@ pub fn print_shown<R: Source + Drop, W: Sink>(
         Shows (setting_of showing.now.setup (bounds_in rooms.old) desk.old) showing.now.spelling
         (source_so_far (setting_of showing.now.setup (bounds_in rooms.old) desk.old) (take n q.bytes))
         result.1.moves result.1.outcome (W.held output) (W.held result.0) }
-    // A write fault is told where a put failed, and nowhere else.
+    // A write fault is reported where a put failed, and nowhere else.
     ensures write_faults { (q : Supply) → R.supply input ≡ Some q → breaks_off q.faults ≡ false →
         IsShort q.bytes (man_of showing.now.setup.stages.mdoc q.bytes) →
         TellsWrites result.1.outcome (W.failures output).puts (W.failures result.0).puts }

@@ -133,7 +133,7 @@ over-both a first second stages table w v says says' said said' fits fits' fitte
     ∙ ap (λ (f : List ℕ → Bool). pulled (pulled a true one f [] 0 false) true two fits' [] 0 false) (e4 ∙ ap (λ (z : List ℕ → Bool). fits_if stages.mdoc z) e5)
     ∙ ap (λ (f : List ℕ → Bool). pulled (pulled a true one (fits_if stages.mdoc fits_always) [] 0 false) true two f [] 0 false) (e6 ∙ ap (λ (z : List ℕ → Bool). fits_if stages.characters z) e7)
 
--- ---- a stage behind them, which codes
+-- ---- a stage after them, which codes
 
 coded_pulled : (text result : Option Supply) (says : Bool → List ℕ → List ℕ) (fits : List ℕ → Bool) (wants room : ℕ) (t : Characters)
     → result ≡ pulled text (nat_le wants room) says fits [] 0 false → wants ≡ 32 → 32 ≤ room → says ≡ coded_text t → fits ≡ fits_always

@@ -1,4 +1,4 @@
-//! A page that has a table of its own is read through the same stages, and its characters are coded behind them.
+//! A page that has a table of its own is read through the same stages, and its characters are coded after them.
 ghost use Rattle.std.specs.Prelude.{◌≡◌, ◌<◌, ◌≤◌, ℕ, Some, false, length, take};
 ghost use Rattle.nr_units.specs.Source.{After, Supply};
 ghost use Rattle.document_stages.specs.Pulling.{broken_off};

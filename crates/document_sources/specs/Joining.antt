@@ -48,7 +48,7 @@ ended follow (Some name) line after = or_after (follow name) after
 abbrev pub is_line_byte : ℕ → Bool
 is_line_byte byte = not (byte == code "\n")
 
--- The lines of a text, of the first of which this was read. `follow` is what comes of a name and of the text behind its
+-- The lines of a text, of the first of which this was read. `follow` is what comes of a name and of the text after its
 -- line. A line of `room` bytes or more names nothing.
 abbrev pub lines : ℕ → (List ℕ → List ℕ → Option (List ℕ)) → Bool → List ℕ → List ℕ → List ℕ
 lines room follow begins line [] = ended (λ name. follow name []) (named begins line) line []
@@ -66,7 +66,7 @@ joined room texts zero left = lines room (λ name rest. None)
 joined room texts (suc files) left = lines room (λ name rest.
     Some (joined room texts files (left - length (text_of texts left name)) true [] (text_of texts left name ++ rest)))
 
--- what comes of a name and of the text behind its line
+-- what comes of a name and of the text after its line
 abbrev pub follow : ℕ → Texts → ℕ → ℕ → List ℕ → List ℕ → Option (List ℕ)
 follow room texts zero left name rest = None
 follow room texts (suc files) left name rest =
@@ -74,7 +74,7 @@ follow room texts (suc files) left name rest =
 
 -- ---- what is to come
 
--- of a line that is read, has ended or goes out, and of the text behind it
+-- of a line that is read, has ended or goes out, and of the text after it
 abbrev pub to_come : Texts → ℕ → Standing → Phase → List ℕ → List ℕ → List ℕ
 to_come texts room s Reads line rest = joined room texts s.files s.left s.begins line rest
 to_come texts room s Ends line rest =
@@ -119,7 +119,7 @@ going_out s = record s { phase = Gives; at = 0; begins = true }
 abbrev pub line_begun : Bool → Standing → Standing
 line_begun begins s = record s { phase = Reads; at = 0; begins = begins }
 
--- A name was followed: these bytes come first now. Whatever comes behind them, it comes to what the definition says.
+-- A name was followed: these bytes come first now. Whatever comes after them, it comes to what the definition says.
 abbrev pub Follows : Option Texts → List ℕ → Standing → Standing → List ℕ → List ℕ → Type 0
 Follows None name s t old new = ⊤
 Follows (Some texts) name s t old new = (room : ℕ) → (rest : List ℕ)

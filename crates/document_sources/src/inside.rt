@@ -63,7 +63,7 @@ fn lies_in(root: &[u8], path: &[u8]) -> bool
     is_inner(rest)
 }
 
-/// Adds what a file has left, of so many bytes at most: fewer where it fails, which is told.
+/// Adds what a file has left, of so many bytes at most: fewer where it fails, which is reported.
 fn read_all<R: Read>(file: &mut R, most: usize, text: &mut Vec<u8>) -> Result<Found, AllocError> {
     let mut chunk = [0u8; CHUNK];
     for _ in 0..u64::MAX {

@@ -1,4 +1,4 @@
-//! What is told of texts that are left out.
+//! What is reported of texts that are left out.
 
 use super::folder::Why;
 

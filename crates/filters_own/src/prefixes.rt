@@ -78,7 +78,7 @@ fn read_prefix<R: Source>(input: &mut R, prefix: &mut SliceVec<'_, u8>) -> Resul
 
 /// The first MiB of the text of this name, under its coding, goes into an empty room for so many. Tells how many bytes.
 ///
-/// Proved: The first MiB of a text is read under its coding; where it can't be opened or read, that is told by its name.
+/// Proved: The first MiB of a text is read under its coding; where it can't be opened or read, that is reported by its name.
 /// (`first_of`)
 pub fn first_of<'a, P: Paths, I: Read + Copy + Drop>(
     name: &'a str,

@@ -113,7 +113,7 @@ fn put_more<E: Sink>(program: &str, name: &str, missed: bool, errors: &mut E) ->
     put_all(&parts, errors)
 }
 
-/// Writes what is told of the text of this name, up to the first fault of a write.
+/// Writes what is reported of the text of this name, up to the first fault of a write.
 fn put_reports<E: Sink>(
     program: &str,
     name: &str,

@@ -12,7 +12,7 @@ use nr_units::Name;
 use nr_units::sink::Sink;
 use std::alloc::{AllocError, Global};
 
-/// This program tells what is wrong with the page of man(7) of this name, as far as `errors` takes it. Nothing is told where
+/// This program tells what is wrong with the page of man(7) of this name, as far as `errors` takes it. Nothing is reported where
 /// memory is wanting.
 pub fn tell_page<E: Sink>(
     program: &str,

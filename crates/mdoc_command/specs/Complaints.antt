@@ -84,11 +84,11 @@ abbrev pub more_lines : List ℕ → List ℕ → Bool → List ℕ
 more_lines program name missed =
     if missed then concat (program ∷ codes ": " ∷ name ∷ codes ": and more\n" ∷ []) else []
 
--- THE LINES of a program about the text of this name, of which this is told
+-- THE LINES of a program about the text of this name, of which this is reported
 abbrev pub lines_of : List ℕ → List ℕ → AllReported → List ℕ
 lines_of program name t =
     flat_map (complaint_line program name) t.complaints.items ++ more_lines program name t.missed
 
--- What is told of a whole page: of 64 blocks that are open at once, and 64 complaints.
+-- What is reported of a whole page: of 64 blocks that are open at once, and 64 complaints.
 abbrev pub reported_of : List ℕ → AllReported
 reported_of page = (finished (all_heard page (first_page 64 64))).reported

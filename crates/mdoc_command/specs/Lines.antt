@@ -206,7 +206,7 @@ is_passed line = false
 abbrev pub is_unread : ℕ → Half → Bool
 is_unread b h = is_unwatched h || (not (b == code "\n") && is_passed h.line)
 
--- a byte meets the line: what is whole with it
+-- the line takes in a byte: what is whole with it
 abbrev pub taken_in : ℕ → Half → Half × Whole
 taken_in b h = let m = taken_in_at h.line b h in (looked_at h.line b m.0, m.1)
 

@@ -1,4 +1,4 @@
--- What is told of a page: the first complaints, as many as there is room for, and whether there was more.
+-- What is reported of a page: the first complaints, as many as there is room for, and whether there was more.
 use Rattle.std.specs.Prelude.{ℕ, List, [], ◌∷◌, ◌++◌, length, Bool, true, false, ◌==◌, if◌then◌else◌}
 use Rattle.nr_vectors.specs.Items.{Items}
 use Rattle.mdoc_command.specs.declared.blocks.OpenBlock.{OpenBlock}

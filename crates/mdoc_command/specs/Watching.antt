@@ -163,7 +163,7 @@ abbrev pub reported_of_line : Option Kind → Page → Page
 reported_of_line None p = p
 reported_of_line (Some kind) p = record p { reported = telling.reported kind p.wording.line p.reported }
 
--- the line ends: what is wrong with its words is told
+-- the line ends: what is wrong with its words is reported
 abbrev pub line_ended : Line → Page → Page
 line_ended before p =
     let wrong = if is_quoted before then Some (kinds.OpenQuote p.wording.name) else fault p.wording in
@@ -207,7 +207,7 @@ abbrev pub all_heard : List ℕ → Page → Page
 all_heard [] p = p
 all_heard (b ∷ bs) p = all_heard bs (heard b p)
 
--- the page ends: what is open is told at the lines where it was opened
+-- the page ends: what is open is reported at the lines where it was opened
 abbrev pub finished : Page → Page
 finished p = record p {
   blocks = record p.blocks { items = [] };

@@ -240,7 +240,7 @@ fn put_more<E: Sink>(program: &str, name: &str, missed: bool, errors: &mut E) ->
     put_all(&parts, errors)
 }
 
-/// Writes what is told of the text of this name, up to the first fault of a write.
+/// Writes what is reported of the text of this name, up to the first fault of a write.
 fn put_reported<E: Sink>(
     program: &str,
     name: &str,
@@ -257,7 +257,7 @@ fn put_reported<E: Sink>(
     put_more(program, name, reported.has_missed(), errors)
 }
 
-/// This program tells what is told of the text of this name, as far as `errors` takes it, and whether something is.
+/// This program tells what is reported of the text of this name, as far as `errors` takes it, and whether something is.
 ///
 /// Proved: Each complaint about a text is written, in one line with the text's name and the line of the fault, in their
 /// order: all of them, or a prefix where a call failed.

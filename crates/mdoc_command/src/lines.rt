@@ -184,7 +184,7 @@ impl Half {
         }
     }
 
-    /// A byte meets the line.
+    /// The line takes in a byte.
     pub fn take_in(&mut self, byte: u8) -> Whole
         ensures half { self.new ≡ (specs.taken_in byte self.old).0 }
         ensures whole { result ≡ (specs.taken_in byte self.old).1 }
@@ -204,7 +204,7 @@ impl Half {
         }
     }
 
-    /// It meets it by where it is read.
+    /// It is taken in by where it is read.
     fn take_in_line(&mut self, byte: u8) -> Whole
         ensures half { self.new ≡ (specs.taken_in_at self.old.line byte self.old).0 }
         ensures whole { result ≡ (specs.taken_in_at self.old.line byte self.old).1 }

@@ -11,7 +11,7 @@ use nr_units::sink::Sink;
 use std::alloc::{AllocError, Global};
 
 /// This program tells what mdoc would of the text of this name, as far as `errors` takes it. Nothing is turned, and
-/// nothing told where memory is wanting.
+/// nothing reported where memory is wanting.
 pub fn tell_page<E: Sink>(
     program: &str,
     name: &str,

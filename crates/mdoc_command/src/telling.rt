@@ -1,4 +1,4 @@
-// What is told of a page.
+// What is reported of a page.
 ghost use Rattle.std.specs.Prelude.{◌≡◌, IfOk, length};
 ghost use Rattle.mdoc_command.specs.Telling as specs;
 
@@ -8,7 +8,7 @@ use nr_vectors::slice_vec::SliceVec;
 use std::alloc::{AllocError, Global};
 use std::marker::Model;
 
-/// How many complaints about a text are told.
+/// How many complaints about a text are reported.
 pub const MOST_COMPLAINTS: usize = 64;
 
 /// What is wrong with a line, and the macros that it is about.
@@ -64,7 +64,7 @@ pub fn room_for(n: usize, alloc: Global) -> Result<Vec<Complaint>, AllocError>
     vec![in alloc; none; n]
 }
 
-/// What is told of a page.
+/// What is reported of a page.
 #[derive(Drop)]
 pub struct Reported<'a> {
     complaints: SliceVec<'a, Complaint>,
@@ -80,7 +80,7 @@ impl<'a> Model for Reported<'a> {
 }
 
 impl<'a> Reported<'a> {
-    /// Nothing is told: complaints come into this room.
+    /// Nothing is reported: complaints come into this room.
     pub fn over(room: &'a mut [Complaint]) -> Reported<'a>
         ensures { result ≡ specs.nothing_reported (length room.entry.now) }
     {

@@ -21,7 +21,7 @@ impl<'a, S: Source + Drop> Watched<'a, S> {
         Watched { source, page }
     }
 
-    /// What is told of the page.
+    /// What is reported of the page.
     pub fn reported(&self) -> &Reported<'a> {
         self.page.reported()
     }

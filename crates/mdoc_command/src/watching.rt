@@ -1,4 +1,4 @@
-// What is wrong with the lines of a page, told as its bytes come.
+// What is wrong with the lines of a page, reported as its bytes come.
 ghost use Rattle.std.specs.Prelude.{◌≡◌, ◌≤◌, length};
 ghost use Rattle.mdoc_command.specs.Watching as specs;
 
@@ -12,7 +12,7 @@ use nr_units::Name;
 use nr_vectors::slice_vec::SliceVec;
 use std::marker::Model;
 
-/// A page as far as it came: what is half read of it, its blocks that are open, the last of them first, and what is told.
+/// A page as far as it came: what is half read of it, its blocks that are open, the last of them first, and what is reported.
 #[derive(Drop)]
 pub struct Watch<'a> {
     half: Half,
@@ -64,7 +64,7 @@ impl<'a> Watch<'a> {
         }
     }
 
-    /// What is told.
+    /// What is reported.
     pub fn reported(&self) -> &Reported<'a>
         ensures { result.now ≡ self.now.reported }
     {
@@ -138,7 +138,7 @@ impl<'a> Watch<'a> {
         }
     }
 
-    /// The line of a macro ends: what is wrong with its words is told.
+    /// The line of a macro ends: what is wrong with its words is reported.
     fn end_line(&mut self, before: Line)
         ensures { self.new ≡ specs.line_ended before self.old }
     {
@@ -166,7 +166,7 @@ impl<'a> Watch<'a> {
         }
     }
 
-    /// The page ends: what is open is told.
+    /// The page ends: what is open is reported.
     pub fn finish(&mut self)
         ensures { self.new ≡ specs.finished self.old }
     {

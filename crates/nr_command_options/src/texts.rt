@@ -1,4 +1,4 @@
-//! What option words are made of: a byte in front, and numbers.
+//! What option words are made of: a byte that comes first, and numbers.
 ghost use Rattle.std.specs.Prelude.{◌≡◌, ◌≢◌, ℕ, ◌<◌, ◌≤◌, List, ◌∷◌, IfSome, IfNone, ℤ};
 ghost use Rattle.std.specs.Option.{SomeIff};
 ghost use Rattle.std.specs.Str.Parse.{IsNumeral, digits_value};

@@ -48,7 +48,7 @@ came s source n WriteFault before (Some ys) p = record { pages = p.0; prints = (
 
 -- ---- as bytes
 
--- all pages are a front of themselves
+-- all pages are a prefix of themselves
 pub plain_out : (o : Outcome) (bytes : List ℕ) → IsOut o Bytes bytes bytes 0
 plain_out Done bytes = (refl, refl)
 plain_out (Limit which at) bytes = (refl, refl)
@@ -62,7 +62,7 @@ plain_out WriteFault bytes = ([], sym (append-nil bytes))
 abbrev making : Table → Bool → Option (List ℕ) → ℕ → Making
 making t e begun failed = record { table = t; escapes = e; begun = begun; failed = failed }
 
--- all of it, or a front of it
+-- all of it, or a prefix of it
 all_of : (t : Table) (e : Bool) (failed failed' : ℕ) (pages bytes : List ℕ) (n : ℕ)
     → Finishes {E = Fault} (making t e (Some []) failed) pages (Some bytes) failed' (Ok n) → IsOut Done (Characters t e) pages bytes n
 all_of t e failed failed' pages bytes n f = (f.went_out, subst (λ (z : List ℕ). KeepsLines t e pages z) (sym f.went_out) f.text, f.made)

@@ -85,7 +85,7 @@ setting_for setup macros page tables options =
       options = options;
     }
 
--- ---- what is told
+-- ---- what is reported
 
 -- THE DOCUMENT WAS PRINTED as it is set: what goes out of its pages was handed over.
 pub record PrintsDocument (setup : DocumentSetup) (macros page output : List ℕ) (report : Report) (code : ℕ) : Type 0 where

@@ -40,11 +40,11 @@ abbrev pub shown : Form → List ℕ → List ℕ
 shown Bytes pages = pages
 shown (Characters table escapes) pages = converted table escapes pages
 
--- a front of a text
+-- a prefix of a text
 abbrev pub IsPrefix : List ℕ → List ℕ → Type 0
 IsPrefix prefix text = (rest : List ℕ) × (text ≡ prefix ++ rest)
 
--- All of the pages goes out where there is room, and else a front of that.
+-- All of the pages goes out where there is room, and else a prefix of that.
 abbrev pub IsOut : Outcome → Form → List ℕ → List ℕ → ℕ → Type 0
 IsOut WriteFault form pages bytes dropped = IsPrefix bytes (shown form pages)
 IsOut ReadFault form pages bytes dropped = Unit {0}
@@ -68,7 +68,7 @@ dropped_of (Ok dropped) = dropped
 dropped_of (Err e) = 0
 
 -- A PAGE WAS PRINTED: so many moves of the machine printed these pages of its document, and that is what went out of them. Where
--- there was room for all pages but not for the end of what they become, that is told.
+-- there was room for all pages but not for the end of what they become, that is reported.
 pub record IsPrinted (s : Setting) (form : Form) (page bytes : List ℕ) (moves : ℕ) (outcome : Outcome) (dropped : ℕ) : Type 0 where
   pub ended : Outcome
   pub pages : List ℕ

@@ -15,7 +15,7 @@ nothing_reported = record { written = 0; at = 0; moves = 0; limit = 0; dropped =
 abbrev pub code_within : ℕ → ℕ → ℕ → ℕ
 code_within code came fit = if nat_lt fit came then 4 else code
 
--- These bytes came out: as many as fit stand at the front of the output, and their count is reported.
+-- These bytes came out: as many as fit stand at the beginning of the output, and their count is reported.
 pub record IsHanded (bytes output : List ℕ) (written : ℕ) : Type 0 where
   pub prefix : take written output ≡ take written bytes
   pub count : written ≡ min (length bytes) (length output)

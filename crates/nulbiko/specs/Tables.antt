@@ -9,7 +9,7 @@ table_numbered n =
     if n == 1 then Some English else if n == 2 then Some Latin else if n == 3 then Some Cyrillic else
     if n == 4 then Some Greek else if n == 5 then Some Latin1 else None
 
--- what is told where there was no memory to choose one
+-- what is reported where there was no memory to choose one
 abbrev pub unchosen : ℕ
 unchosen = 7
 

@@ -289,7 +289,7 @@ pub(crate) fn asks_for_own(setup: &DocumentSetup, text: &[u8]) -> bool
 /// 1 a limit would be passed, 2 a limit or a number is out of range, 4 the buffer is full, 5 there is not enough memory, 6 a
 /// text is too long.
 ///
-/// Proved: **One call prints a whole document.** What stands at the front of the output are the pages of the machine
+/// Proved: **One call prints a whole document.** What stands at the beginning of the output are the pages of the machine
 /// over `macros ++ tables (characters (mdoc text))`, as `print` of document_printing has them, of the page's text under
 /// its coding, in their form: the bytes of the table, or what utf8 makes of them, which is a text for a terminal. Tables
 /// are set for the width, by the limits and with the table of characters that are asked for (`tables_by`). Where

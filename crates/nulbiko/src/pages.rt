@@ -69,7 +69,7 @@ impl Sink for Pages {
     }
 }
 
-/// Copies bytes to the front of the output, as many as fit, and answers how many. What stands after them stays.
+/// Copies bytes to the beginning of the output, as many as fit, and answers how many. What stands after them stays.
 ///
 /// Proved: Of a caller's buffer what stands after the bytes that are written stays as it was, whatever the outcome.
 /// (`rest` of each call, `hand_over`)

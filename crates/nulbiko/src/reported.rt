@@ -27,7 +27,7 @@ pub(crate) const UNREADABLE: u32 = 9;
 #[repr(C)]
 #[derive(Clone, Copy)]
 pub struct Report {
-    /// How many bytes were put at the front of the output.
+    /// How many bytes were put at the beginning of the output.
     pub written: usize,
     /// After how many bytes of the text a limit would be passed, or on which line something is wrong, or 0.
     pub at: u64,

@@ -81,7 +81,7 @@ fn turn_bytes(
 ///
 /// Proved: What utf8 hands over is what `convert` of utf8_converter puts out with the table of that number, a text
 /// for a terminal but where the buffer cuts it; the bytes that were dropped are reported. The table that is chosen
-/// for a page is that of `choose` for its text under its coding, or 7 is told where memory is refused.
+/// for a page is that of `choose` for its text under its coding, or 7 is reported where memory is refused.
 /// (`nulbiko_utf8_lent`, `nulbiko_choose_lent`)
 #[unsafe(no_mangle)]
 pub extern "C" fn nulbiko_utf8_lent(

@@ -21,7 +21,7 @@ pub struct Unknown {
 /// `coding: koi8-r`, a byte is a character of the set. It fails at no call where the source is known to fail at none.
 ///
 /// Proved: What a source gives under its coding is one function of the bytes that came, however they came: `text_of`,
-/// whose definition meets each byte with what is half read.
+/// whose definition takes in each byte with what is half read.
 #[derive(Drop)]
 pub struct UnderCoding<S> {
     source: S,

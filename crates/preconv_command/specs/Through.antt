@@ -1,4 +1,4 @@
--- Two stages, one behind the other.
+-- Two stages, one after the other.
 use Rattle.std.specs.Prelude.{◌≡◌, ℕ, List, [], Bool, false}
 use Rattle.std.proofs.Common.{ap, ◌∙◌}
 

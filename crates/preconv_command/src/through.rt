@@ -1,4 +1,4 @@
-//! Two stages, one behind the other, are a stage.
+//! Two stages, one after the other, are a stage.
 ghost use Rattle.std.specs.Prelude.{◌≡◌, ◌+◌, ◌*◌, ◌++◌, ◌≤◌, ℕ, Bool, List, length};
 
 use document_stages::Stage;

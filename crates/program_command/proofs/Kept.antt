@@ -114,7 +114,7 @@ Runs-kept job around files supply ending a b c runs q = record {
   };
 }
 
--- ---- or can't be: that is told then
+-- ---- or can't be: that is reported then
 
 EndsBy-failed : (others : Bool) (job : Asked) (around : Surroundings) (files : Option Supply) (page : Supply) (ending : Ending) (a b c : Option (List ℕ))
     → EndsBy others job around files page ending a b → Keeps b c → EndsBefore endings.WriteFault a c ⊎ EndsBy others job around files page endings.WriteFault a c

@@ -112,7 +112,7 @@ pub Stays-refl : (known : Option Supply) → Stays known known
 Stays-refl None = tt
 Stays-refl (Some q) = refl
 
--- ---- the macro files, and the pages behind them
+-- ---- the macro files, and the pages after them
 
 pub files-are : {T : Type 0} → (supply : T → Option Supply) (job : Asked) (texts macros : List T) (count : ℕ)
     → count ≡ min (length (macro_names job)) (length texts) → macros ≡ take count texts

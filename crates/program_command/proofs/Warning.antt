@@ -1,4 +1,4 @@
--- What is wrong in texts is told where words ask for it.
+-- What is wrong in texts is reported where words ask for it.
 use Rattle.std.proofs.Common.{◌≡◌, ℕ, zero, suc, ◌+◌, ◌-◌, ◌<◌, ◌≤◌, List, [], ◌∷◌, ◌++◌, length, map, Bool, true, false, not, ◌&&◌, nat_le, Option, None, Some, Result, Ok, Err, IfOk, ◌⊎◌, inl, inr, append-nil, if◌then◌else◌, refl, sym, subst, ◌∙◌, ap, arith}
 use Rattle.std.proofs.lemmas.List.{length-map, map-append}
 use Rattle.nr_units.specs.Source.{Supply}
@@ -72,7 +72,7 @@ pub TellsEach-append : (old next new : Heard) (xs ys : List (List ℕ)) → Tell
 TellsEach-append old next new [] ys first rest = subst (λ (h : Heard). TellsEach h new ys) first rest
 TellsEach-append old next new (x ∷ xs) ys (mid, tells, first) rest = (mid, tells, TellsEach-append mid next new xs ys first rest)
 
--- nothing was told
+-- nothing was reported
 pub heard-same : {E : Type 0} (held : E → Option (List ℕ)) (failures : E → SinkFailures) (old new : E) → new ≡ old
     → heard (held new) (failures new) ≡ heard (held old) (failures old)
 heard-same {E} held failures old new same = ap (λ (e : E). heard (held e) (failures e)) same
@@ -130,7 +130,7 @@ tables-some has job page tables is reported = subst (λ (b : Bool). AreTablesOf 
 short-page : (page : List ℕ) → AreAllShort page → IsShort page page
 short-page page short = (short (record { mdoc = false; characters = true }) page [] (sym (append-nil page))).man_is
 
--- what is told of the tables of a page that was read
+-- what is reported of the tables of a page that was read
 pub tables-looked : (job other : Job) (page : List ℕ) (tables : Tables) (known : Option Supply) → other ≡ job
     → (IsShort page page → known ≡ Some (whole (preconv.converted Ascii page))) → ((q : Supply) → known ≡ Some q → AreReportedOf other q.bytes tables)
     → AreAllShort page → AreReportedOf job (preconv.converted Ascii page) tables
@@ -177,7 +177,7 @@ TellsText-of job coding name given true bytes old new all cut reported = λ q kn
     inl (subst (λ (bs : List ℕ). TellsBytes job coding name bs old new) (sym (all refl q known)) reported)
 TellsText-of job coding name given false bytes old new all cut reported = λ q known. inr (cut refl q known, reported)
 
--- what was told of all that was read
+-- what was reported of all that was read
 pub TellsRead-whole : {T E : Type 0} (r : Result T E) (job : Asked) (coding : Option Coding) (name : List ℕ) (whole : Bool) (bytes same : List ℕ) (old new : Heard)
     → whole ≡ true → same ≡ bytes → IfOk r (λ _. TellsBytes job coding name same old new) → IfOk r (λ _. TellsRead job coding name whole bytes old new)
 TellsRead-whole r job coding name whole bytes same old new is all reported =

@@ -33,11 +33,11 @@ HasOwn plan first (Some counts) = (needs_own plan first ≡ true) × (counts ≡
 
 -- ---- its characters that are not shown
 
--- those that a table of these lacks, as they are told
+-- those that a table of these lacks, as they are reported
 abbrev pub names_in : Option (List Count) → List ℕ
 names_in None = []
 names_in (Some counts) = names_of (left_of counts)
 
--- what is told of a page: nothing where all are shown
+-- what is reported of a page: nothing where all are shown
 abbrev pub unshown_of : Plan → List ℕ → List ℕ
 unshown_of plan first = if needs_own plan first then names_of (left_of (ranked_of plan first)) else []

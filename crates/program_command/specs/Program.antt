@@ -48,7 +48,7 @@ abbrev pub IsBadWord : Complaint → Ending → Type 0
 IsBadWord complaint (BadWord usage) = (usage.case ≡ complaint.case) × (usage.word.now ≡ complaint.word)
 IsBadWord complaint other = ⊥
 
--- nothing is told of what is wrong in texts: a word is bad, or none asks for it
+-- nothing is reported of what is wrong in texts: a word is bad, or none asks for it
 abbrev pub is_silent : Result Asked Complaint → Bool
 is_silent (Err complaint) = true
 is_silent (Ok job) = not job.plain.warns
@@ -66,7 +66,7 @@ pub record EndsUnrun (ending : Ending) (held new : Option (List ℕ)) : Type 0 w
   pub unrun : IsNotRun ending
   pub kept : Keeps held new
 
--- What is wrong with the texts of a job was told, if words ask for it, and then its pages came to this, with the texts of the folder
+-- What is wrong with the texts of a job was reported, if words ask for it, and then its pages came to this, with the texts of the folder
 -- that words name.
 pub record Warned (job : Asked) (around : Surroundings) (coding : Option Coding) (folder : Option (Option Texts)) (given : List (Option Supply))
     (ending : Ending) (held new : Option (List ℕ)) (before after : Heard) : Type 0 where

@@ -34,7 +34,7 @@ abbrev pub under : Option Coding → Option Supply → Option Supply
 under (Some coding) files = coded_supply coding files
 under None files = text_supply files
 
--- the pages among the texts of a job, behind its macro files
+-- the pages among the texts of a job, after its macro files
 abbrev pub pages_of : {A : Type 0} → Asked → List A → List A
 pages_of job texts = drop (length (macro_names job)) texts
 
@@ -52,7 +52,7 @@ with_named (Some texts) pages = followed texts pages 8192 64 67108864
 abbrev pub text_of : Asked → Option Coding → Option (Option Texts) → List (Option Supply) → Option Supply
 text_of job coding folder given = under coding (with_named folder (files_supply (pages_of job given)))
 
--- ---- how its end is told
+-- ---- how its end is reported
 
 -- the name of the first text
 abbrev pub first_of : List (List ℕ) → List ℕ
@@ -69,8 +69,8 @@ IsWholeBut name unshown Done = unshown ≡ []
 IsWholeBut name unshown (Unshown first names) = (first.now ≡ name) × (names.items ≡ unshown) × (unshown ≢ [])
 IsWholeBut name unshown other = ⊥
 
--- How the end of a page is told, with the line that was read last, or the characters that are not shown; that the output failed,
--- also where it did behind the page.
+-- How the end of a page is reported, with the line that was read last, or the characters that are not shown; that the output failed,
+-- also where it did after the page.
 abbrev pub IsReported : List ℕ → List ℕ → Report → Ending → Type 0
 IsReported name unshown report Done = (report.outcome ≡ outcomes.Done) × IsWholeBut name unshown Done
 IsReported name unshown report (Unshown first names) = (report.outcome ≡ outcomes.Done) × IsWholeBut name unshown (Unshown first names)
@@ -118,7 +118,7 @@ pub record AreMacros (job : Asked) (kind : Macros) (files : Option Supply) (macr
   pub read : (q : Supply) → files ≡ Some q → macros ≡ own ++ q.bytes
 
 -- A text goes out as a document, after macros: by the plan of words, surroundings and the first bytes of it, which were looked
--- at, and under the limits of the words. How it ended is told.
+-- at, and under the limits of the words. How it ended is reported.
 pub record IsDocument (job : Asked) (around : Surroundings) (files : Option Supply) (q : Supply) (ending : Ending)
     (held new : Option (List ℕ)) : Type 0 where
   pub first : List ℕ

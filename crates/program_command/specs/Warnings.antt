@@ -1,4 +1,4 @@
--- What is told of texts in which something is wrong.
+-- What is reported of texts in which something is wrong.
 use Rattle.std.specs.Prelude.{◌≡◌, ◌≢◌, ℕ, ◌+◌, ◌-◌, ◌≤◌, List, [], ◌∷◌, ◌++◌, drop, take, length, nat_le, codes, Bool, true, false, ◌&&◌, Option, None, Some, ◌⊎◌, if◌then◌else◌}
 use Rattle.std.specs.List.{concat}
 use Rattle.nr_units.specs.Failures.{SinkFailures}
@@ -58,11 +58,11 @@ of_tables job name page =
     then lines_of_page PROGRAM name (tables_job job (kind_of job page)) (preconv.converted Ascii page) ∷ []
     else []
 
--- WHAT IS WRONG WITH A PAGE of this name, as it is told
+-- WHAT IS WRONG WITH A PAGE of this name, as it is reported
 abbrev pub warnings_of : Asked → List ℕ → List ℕ → List (List ℕ)
 warnings_of job name page = of_macros (kind_of job page) name page ++ of_man (kind_of job page) name page ++ of_tables job name page
 
--- ---- how it is told
+-- ---- how it is reported
 
 -- what a sink holds, where that is known, and how many of its calls failed
 pub record Heard : Type 0 where
@@ -72,7 +72,7 @@ pub record Heard : Type 0 where
 abbrev pub heard : Option (List ℕ) → SinkFailures → Heard
 heard held failures = record { held = held; failures = failures }
 
--- lines were told one after the other, each whole, or a prefix of it where a call failed
+-- lines were reported one after the other, each whole, or a prefix of it where a call failed
 abbrev pub TellsEach : Heard → Heard → List (List ℕ) → Type 0
 TellsEach old new [] = new ≡ old
 TellsEach old new (line ∷ lines) =
@@ -87,7 +87,7 @@ page_of None bytes = text_of bytes
 abbrev pub unlooked : List ℕ → List ℕ
 unlooked name = concat (codes "nulbiko: " ∷ name ∷ codes ": not looked at\n" ∷ [])
 
--- what is wrong with a text of these bytes was told
+-- what is wrong with a text of these bytes was reported
 abbrev pub TellsBytes : Asked → Option Coding → List ℕ → List ℕ → Heard → Heard → Type 0
 TellsBytes job coding name bytes old new =
     AreAllShort (page_of coding bytes) → TellsEach old new (warnings_of job name (page_of coding bytes))
@@ -96,7 +96,7 @@ TellsBytes job coding name bytes old new =
 abbrev pub MayBeCut : Supply → Type 0
 MayBeCut q = (q.faults ≢ Never) ⊎ (67108864 ≤ length q.bytes)
 
--- what is wrong with a text was told; or where it may not come whole, that it was not looked at
+-- what is wrong with a text was reported; or where it may not come whole, that it was not looked at
 abbrev pub TellsText : Asked → Option Coding → List ℕ → Option Supply → Heard → Heard → Type 0
 TellsText job coding name given old new =
     (q : Supply) → given ≡ Some q → TellsBytes job coding name q.bytes old new ⊎ (MayBeCut q × TellsEach old new (unlooked name ∷ []))
@@ -110,7 +110,7 @@ TellsRead job coding name false bytes old new = TellsEach old new (unlooked name
 abbrev pub macro_count : Asked → ℕ
 macro_count job = length (macro_names job)
 
--- what is wrong with the text at this place is told: where words ask for it, and of no macro file
+-- what is wrong with the text at this place is reported: where words ask for it, and of no macro file
 abbrev pub is_looked_at : Asked → ℕ → Bool
 is_looked_at job place = job.plain.warns && nat_le (macro_count job) place
 
@@ -145,7 +145,7 @@ AreTablesOf true job page (Some tables) = AreReportedOf job (preconv.converted A
 AreTablesOf false job page None = Unit {0}
 AreTablesOf has job page tables = ⊥
 
--- as it is told
+-- as it is reported
 abbrev pub lines_of : List ℕ → Option Tables → List (List ℕ)
 lines_of name None = []
 lines_of name (Some tables) = lines_of_tables PROGRAM name tables ∷ []

@@ -103,11 +103,11 @@ fn borrowed(words: &[String], alloc: Global) -> Result<Vec<&str>, AllocError> {
 /// Proved: All texts of a job are opened, each once and in order, before the first is read; or the first that can't
 /// be is reported, those before it were opened, and none after it was asked for; or none was asked for.
 /// Proved: Where no write fault is reported, all that was printed was passed on.
-/// Proved: Where words ask for it, what is told before that line is what is wrong with the pages of the job, each as it
+/// Proved: Where words ask for it, what is reported before that line is what is wrong with the pages of the job, each as it
 /// stands by itself and in their order: mdoc's complaints of a manual page, by the definition of mdoc_command, and those of its
 /// tables, by that of tbl_command, each once, with the name of its file and its line, up to 64 of a text and of its tables. Only of
-/// a text a call of which may fail, or that has 64 MiB or more, may it be told instead that it wasn't looked at. Where no word
-/// asks for it nothing is told. (`Warned` of Program.antt, `TellsTexts` of Warnings.antt)
+/// a text a call of which may fail, or that has 64 MiB or more, may it be reported instead that it wasn't looked at. Where no word
+/// asks for it nothing is reported. (`Warned` of Program.antt, `TellsTexts` of Warnings.antt)
 /// Proved: **What a reader gets of the program.** Where words ask for pages with what is struck over, what goes out is the
 /// document of document_printing: of the text that the opened files make one after the other, where a word names a
 /// folder with the texts of it that lines `.so` name in the places of these, under the coding that a word or the text

@@ -1,4 +1,4 @@
-//! What the program is told beside its words.
+//! What the program is given beside its words.
 
 use program_options::{Device, device_of_locale};
 use std::alloc::Global;
@@ -8,7 +8,7 @@ use std::rt::Env;
 /// The bytes of the longest word of a locale that is read.
 const LONGEST_LOCALE: usize = 256;
 
-/// What the program is told beside its words.
+/// What the program is given beside its words.
 #[derive(Clone, Copy)]
 pub struct Surroundings {
     /// The memory.

@@ -1,4 +1,4 @@
-//! What is wrong in texts is told.
+//! What is wrong in texts is reported.
 ghost use Rattle.std.specs.Prelude.{◌≡◌, ◌⊎◌, IfOk, drop, false, map, take};
 ghost use Rattle.std.specs.Option.{option_map};
 ghost use Rattle.filters.specs.Endings.{Tells};
@@ -36,13 +36,13 @@ use tbl_command::{Job as TablesJob, Tables, look_at, tell_complaints};
 /// The name that begins lines.
 const PROGRAM: &str = "nulbiko";
 
-/// What the tables of a page are looked at behind.
+/// What the tables of a page are looked at after.
 const STAGES: Stages = Stages {
     mdoc: false,
     characters: true,
 };
 
-/// Runs a job over its texts. What is wrong in them is told before, where words ask for it. Gives the output back.
+/// Runs a job over its texts. What is wrong in them is reported before, where words ask for it. Gives the output back.
 pub(crate) fn run_warned<'a, T: Source + Drop, F: Folder + Drop, W: Sink + Drop, E: Sink>(
     job: &Job<'a>,
     around: &Surroundings,
@@ -73,7 +73,7 @@ struct Looks {
     alloc: Global,
 }
 
-/// Texts that are to be read. What is wrong with each as it stands by itself is told before, macro files aside, where words
+/// Texts that are to be read. What is wrong with each as it stands by itself is reported before, macro files aside, where words
 /// ask for it.
 pub(crate) fn warn_of<S: Source + Drop, E: Sink>(
     job: &Job<'_>,
@@ -117,7 +117,7 @@ fn ahead_of<S: Source + Drop, E: Sink>(
     look_at_text(job, name_of(job, page), looks, text, errors)
 }
 
-/// Whether what is wrong with the text at this place is told: where words ask for it, and of no macro file.
+/// Whether what is wrong with the text at this place is reported: where words ask for it, and of no macro file.
 fn is_looked_at(job: &Job<'_>, place: usize) -> bool
     ensures { result ≡ is_looked_at (asked_of job.now) place }
 {

@@ -14,7 +14,7 @@ count false = 0
 
 -- ---- runs
 
--- so many cells, and what the parts at the front take that belong to them, with the hyphen where the line would end after them
+-- so many cells, and what the parts at the beginning take that belong to them, with the hyphen where the line would end after them
 abbrev pub run_from : ℕ → List Part → ℕ
 run_from cells [] = cells
 run_from cells (p ∷ ps) =

@@ -278,7 +278,7 @@ abbrev pub first_of_lines : Option ℕ → ℕ → Option ℕ
 first_of_lines None line = Some line
 first_of_lines (Some first) line = Some first
 
--- it is told with its line
+-- it is reported with its line
 abbrev pub unset : Reading → Reading
 unset r = record r { seen = record r.seen { unknown = first_of_lines r.seen.unknown r.line } }
 

@@ -107,7 +107,7 @@ fn is_end(text: &[u8]) -> bool
     }
 }
 
-/// What a quote at the front of an argument takes.
+/// What a quote at the beginning of an argument takes.
 fn quote_len(text: &[u8]) -> usize
     ensures value { result ≡ specs.quote_len text.now }
     ensures within { result ≤ length text.now }

@@ -32,7 +32,7 @@ fn run(parts: &[Part]) -> usize
     run_from(parts[0].cells, &parts[1..])
 }
 
-/// So many cells, and what the parts at the front take that belong to them.
+/// So many cells, and what the parts at the beginning take that belong to them.
 fn run_from(before: usize, parts: &[Part]) -> usize
     ensures { result ≡ specs.run_from before parts.now }
 {

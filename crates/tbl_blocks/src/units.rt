@@ -121,7 +121,7 @@ fn delimited_len(text: &[u8]) -> usize
     }
 }
 
-/// 1 where a digit stands in front, else 0.
+/// 1 where a digit comes first, else 0.
 fn digit_len(text: &[u8]) -> usize
     ensures value { result ≡ escapes.digit_len text.now }
     ensures most { result ≤ 1 }

@@ -1,4 +1,4 @@
--- Where a table ends: behind the widths of its columns, the spaces between them and what stands at its edges.
+-- Where a table ends: after the widths of its columns, the spaces between them and what stands at its edges.
 use Rattle.std.proofs.Common.{◌≡◌, ℕ, zero, suc, ◌+◌, ◌-◌, ◌<◌, ◌≤◌, ◌==◌, min, max, false, length, get_or, refl, sym, ap, subst, arith, ◌∙◌, length-set, if◌then◌else◌}
 use Rattle.std.proofs.lemmas.Bool.Decides.{nat_tests}
 use Rattle.std.proofs.lemmas.List.{get_or-set_same}

@@ -71,7 +71,7 @@ both_true true true e g = cc
 both_true true false e g = refl
 both_true false b e g = cc
 
--- the n-th counts when it is met
+-- the n-th counts when it is reached
 cell_counts : (t u : Grid) (n : ℕ) → u.cells ≡ t.cells → columns u ≡ columns t
     → measures (cell_of t n) ≡ true → spans (cell_of t n) ≡ false → (cell_of t n).first < columns t
     → needs (cell_of t n) ≤ room (column (measured_cell n u) (cell_of t n).first)

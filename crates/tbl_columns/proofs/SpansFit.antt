@@ -109,7 +109,7 @@ all_enough whole all width k first last count (suc j) d h inside small e =
     step_enough whole all width k first last count j (in_turn j (λ n. dealt_at whole all last (first + n)) d) (omega (arith, h))
     (omega (arith, h, inside)) small (all_enough whole all width k first last count j d (omega (arith, h)) inside small e)
 
--- behind the last nothing is left
+-- after the last nothing is left
 last_enough : (whole width j first last count : ℕ) (d : Dealing) → first + j ≡ last → last < count → count < 2 ^ 64 → width ≤ most
     → Enough width (suc j) first last count d → width ≤ together (suc j) (dealt_at whole (suc j) last (first + j) d).grid first last
 last_enough whole width j first last count d at inside few small e =

@@ -1,4 +1,4 @@
--- What is told of tables is what is wrong with those of a page.
+-- What is reported of tables is what is wrong with those of a page.
 use Rattle.std.proofs.Common.{◌≡◌, ℕ, List, [], ◌++◌, length, take, nat_lt, Bool, Option, Some, None, refl, sym, ap, ◌∙◌, append-nil}
 use Rattle.nr_vectors.specs.Items.{Items}
 use Rattle.nr_units.specs.Source.{Supply}

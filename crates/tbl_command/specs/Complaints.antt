@@ -47,7 +47,7 @@ abbrev pub complaint_line : List ℕ → List ℕ → Complaint → List ℕ
 complaint_line program name c =
     place_text program name (decimal c.line) ++ concat (words_of c.kind ∷ named_by c.kind ∷ codes "\n" ∷ [])
 
--- a line about the whole text, if it is told
+-- a line about the whole text, if it is reported
 abbrev pub line_if : Bool → List ℕ → List ℕ → List ℕ → List ℕ
 line_if said program name what = if said then concat (program ∷ codes ": " ∷ name ∷ what ∷ []) else []
 

@@ -135,7 +135,7 @@ fn put_complaints<E: Sink>(
     Ok(())
 }
 
-/// Writes a line about the whole text, if it is told.
+/// Writes a line about the whole text, if it is reported.
 fn put_if<E: Sink>(
     said: bool,
     program: &str,
@@ -173,7 +173,7 @@ fn put_report<E: Sink>(
     put_if(report.uneven, program, name, UNEVEN, errors)
 }
 
-/// Writes all that is told of the tables of the text of this name, up to the first fault of a write.
+/// Writes all that is reported of the tables of the text of this name, up to the first fault of a write.
 fn put_reported<E: Sink>(
     program: &str,
     name: &str,

@@ -51,6 +51,6 @@ some_at n k given below is =
     let e : k ≡ n + 1 + (k - (n + 1)) = omega arith in
     some_up (k - (n + 1)) n k given e is
 
--- where the last number is told by another
+-- where the last number is reported by another
 pub some_in : (n k m : ℕ) (given : ℕ → Bool) → m ≡ k → n < m → given n ≡ true → some_below k given ≡ true
 some_in n k m given same below is = rw (← same) (some_at n m given below is)

@@ -150,7 +150,7 @@ impl Layout {
         self.put_room_if(row, self.last_below(row), out)
     }
 
-    /// That it has a box is told to macros.
+    /// That it has a box is passed to macros.
     pub(crate) fn put_boxed<W: Sink>(&self, out: &mut Out<'_, W>)
         ensures { Draws out.old out.new (Bytes (specs.boxed self.now) ∷ []) }
     {

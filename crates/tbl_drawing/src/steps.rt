@@ -8,7 +8,7 @@ use super::layout::{Layout, Step, StepKind, Tall};
 use tbl_columns::{Cell, Placed};
 use tbl_table::{Item, Span, add_item, open_after, set_item, space_of};
 
-/// What a walk over the items of a table has met.
+/// What a walk over the items of a table has reached.
 #[derive(Clone, Copy)]
 struct Walk {
     /// The last row that takes room.

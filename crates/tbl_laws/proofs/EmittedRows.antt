@@ -1,4 +1,4 @@
--- The rows that are told, one after the other: where the page stands after them, and how much was told.
+-- The rows that are emitted, one after the other: where the page stands after them, and how much was emitted.
 use Rattle.std.proofs.Common.{◌≡◌, ℕ, ◌+◌, List, [], ◌∷◌, ◌++◌, length, Bool, true, false, refl, sym, ◌∙◌, ap, subst, append_assoc, append-nil, length-append, arith}
 use Prim.Native.Char.{code}
 use Rattle.tbl_reader.specs.declared.field.Mark.TheVariants as marks
@@ -60,7 +60,7 @@ row_more fields (p ∷ ps) =
     by_row true e = ap (λ (rows : List (List (List ℕ))). fields ∷ rows) e
     by_row false e = e
 
--- ---- how much was told
+-- ---- how much was emitted
 
 unfoldable pub bytes_of_all : List (List ℕ) → ℕ
 bytes_of_all [] = 0

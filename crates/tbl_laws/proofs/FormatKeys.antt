@@ -1,4 +1,4 @@
--- What a line of the formats l, r and c is told as, and what becomes of the table that hears it.
+-- What a line of the formats l, r and c is emitted as, and what becomes of the table that hears it.
 use Rattle.std.proofs.Common.{◌≡◌, ℕ, zero, suc, ◌+◌, ◌<◌, ◌≤◌, min, List, [], ◌∷◌, ◌++◌, length, codes, Bool, true, false, ◌==◌, ◌||◌, if◌then◌else◌, get_or, refl, sym, ◌∙◌, ap, subst, append_assoc, append-nil, length-append, arith}
 use Rattle.std.proofs.lemmas.Bool.{eqb-true, lt-leb, lt-ltb}
 use Prim.Native.Char.{code}

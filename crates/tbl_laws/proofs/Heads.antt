@@ -222,7 +222,7 @@ read_with (suc n) bytes p outside h is some few room =
     subst (λ (m : Mode). IsBetweenRows (code "\t") (suc n) (fed (table_with bytes) (at_mode m p)).page) (sym outside)
     (subst (IsBetweenRows (code "\t") (suc n)) (sym (table_read p bytes h room)) (head_is p bytes n h is few))
 
--- what is told of the line of `.TS`, and of the line of formats: what they say, and what may be wrong with them
+-- what is emitted of the line of `.TS`, and of the line of formats: what they say, and what may be wrong with them
 unfoldable pub IsWrong : List Piece → Type 0
 IsWrong ps = (ps ≡ []) ⊎ ((c : Complaint) × (ps ≡ piece (tells.Wrong c) [] ∷ []))
 

@@ -1,4 +1,4 @@
--- The rows that are told are held as they were told.
+-- The rows that are emitted are held as they were emitted.
 use Rattle.std.proofs.Common.{◌≡◌, ℕ, zero, suc, ◌+◌, ◌<◌, ◌≤◌, List, [], ◌∷◌, ◌++◌, length, Bool, true, false, if◌then◌else◌, nat_lt, refl, sym, ◌∙◌, ap, subst, append_assoc, append-nil, length-append, arith}
 use Rattle.tbl_table.specs.declared.table.Field.{Field}
 use Rattle.tbl_table.specs.declared.table.Form.TheVariants as forms

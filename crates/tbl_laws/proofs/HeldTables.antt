@@ -1,4 +1,4 @@
--- A table whose rows were told holds what its lines need.
+-- A table whose rows were emitted holds what its lines need.
 use Rattle.std.proofs.Common.{◌≡◌, ℕ, zero, suc, ◌+◌, ◌*◌, ◌<◌, ◌≤◌, min, List, [], ◌∷◌, ◌++◌, length, Bool, true, false, not, ◌==◌, ◌&&◌, ◌||◌, if◌then◌else◌, nat_le, nat_lt, get_or, refl, sym, ◌∙◌, ap, subst, append_assoc, length-append, arith}
 use Prim.Native.Char.{code}
 use Rattle.std.proofs.Math.ListN.{get_or-append}
@@ -256,7 +256,7 @@ all_length : (rows : List (List (List ℕ))) → length (all_of rows) ≡ count 
 all_length [] = refl
 all_length (r ∷ rs) = (let l = length-append r (all_of rs) in let m = all_length rs in omega (arith, l, m))
 
--- ---- a table whose rows were told, in a layout
+-- ---- a table whose rows were emitted, in a layout
 
 abbrev pub layout_with : Table → Layout → Layout
 layout_with t l = record l { grid = record l.grid { table = t } }
@@ -325,7 +325,7 @@ held_table w o t l rows next c h =
       step_small = (let a = c.step_small in omega (arith, a, count_is, items_count));
     }
 
--- the fields of a row are those that were told
+-- the fields of a row are those that were emitted
 row_is : (w : ℕ) (o t : Table) (l : Layout) (rows : List (List (List ℕ))) (next : List (List ℕ)) → CanHold w o l rows → Held o t rows next → (r : ℕ) → r < length t.rows.items
     → gathered (text_at (with_columns w w (layout_with t l).grid) r) w ≡ gathered (λ c. get_or (get_or rows r []) c []) w
 row_is w o t l rows next c h r inside =

@@ -1,4 +1,4 @@
--- The rows of a table are told as they stand on the page.
+-- The rows of a table are emitted as they stand on the page.
 use Rattle.std.proofs.Common.{◌≡◌, ℕ, zero, suc, ◌+◌, ◌-◌, ◌<◌, ◌≤◌, List, [], ◌∷◌, ◌++◌, length, take, drop, Bool, true, false, not, ◌==◌, ◌&&◌, ◌||◌, if◌then◌else◌, Option, None, Some, refl, sym, ◌∙◌, ap, subst, append_assoc, append-nil, length-append, arith}
 use Rattle.std.proofs.lemmas.Bool.Decides.{nat_tests}
 use Prim.Native.Char.{code}
@@ -172,7 +172,7 @@ pub are_both : (xs ys : List Piece) → are_of_rows xs ≡ true → are_of_rows 
 are_both [] ys h k = k
 are_both (x ∷ xs) ys h k = ap (λ (t : Bool). t && are_of_rows (xs ++ ys)) (both_first _ _ h) ∙ are_both xs ys (both_second _ _ h) k
 
--- all but the last of them were told
+-- all but the last of them were emitted
 pub record Ends (tab columns : ℕ) (fields : List (List ℕ)) (p : Page) (e : Effect) : Type 0 where
   pub others : List (List ℕ)
   pub last : List ℕ

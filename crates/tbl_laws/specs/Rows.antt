@@ -1,4 +1,4 @@
--- The rows of a table are told as they stand on the page (Lesk, "Data"; tbl(1), "Table data"): each field once, in the order of rows and
+-- The rows of a table are emitted as they stand on the page (Lesk, "Data"; tbl(1), "Table data"): each field once, in the order of rows and
 -- columns.
 use Rattle.std.specs.Prelude.{◌≡◌, ℕ, suc, ◌+◌, ◌<◌, ◌≤◌, List, [], ◌∷◌, ◌++◌, length, Bool, true, false, not, ◌==◌, ◌&&◌, ◌||◌, Some, codes, if◌then◌else◌}
 use Prim.Native.Char.{code}
@@ -82,7 +82,7 @@ pub record IsBetweenRows (tab columns : ℕ) (p : Page) : Type 0 where
   pub separated : separates tab ≡ true
   pub few : columns ≤ 64
 
--- ---- the rows that are told, the first of them after these fields of it
+-- ---- the rows that are emitted, the first of them after these fields of it
 
 abbrev pub field_in : Tell → List ℕ → List (List ℕ)
 field_in (tells.Field prefix) text = text ∷ []
@@ -106,7 +106,7 @@ rows_emitted fields [] = []
 rows_emitted fields (p ∷ ps) =
     row_if (is_row p.tell) fields (rows_emitted (left_after (is_row p.tell) (fields ++ field_in p.tell p.text)) ps)
 
--- nothing else is told but what may be wrong with them
+-- nothing else is emitted but what may be wrong with them
 
 abbrev pub is_of_row : Tell → List ℕ → Bool
 is_of_row (tells.Field prefix) text = not (joins text)
@@ -173,7 +173,7 @@ OptionsAreRead =
     → columns_in formats ≤ 64 → length options + length formats + 3 ≤ p.limits.formats
     → IsBetweenRows (options_of options).tab (columns_in formats) (fed (table_of options formats) p).page
 
--- ---- so the rows of a table are told that begins where a page is outside of tables
+-- ---- so the rows of a table are emitted that begins where a page is outside of tables
 
 abbrev pub TablesAreEmitted : Type 0
 TablesAreEmitted =

@@ -22,13 +22,13 @@ pub fn text_outside_stays()
     ensures ends { TablesEnd }
 {}
 
-/// The rows of a table are told to who sets it as they stand on the page: each field once, in the order of rows and columns, and
+/// The rows of a table are emitted to who sets it as they stand on the page: each field once, in the order of rows and columns, and
 /// empty fields too. So it is of lines that are no requests, with at most as many fields as there are columns, whose fields are text
 /// without escapes, neither rules nor blocks; in any table of which blanks are kept, and in one whose formats are a line of columns
 /// of `l`, `r` and `c`, with a line of options before it or without.
 ///
 /// Proved: Of rows whose fields are text (no backslash, no `_`, `=` or `T{` alone; at most as many fields as columns; no
-/// line that begins with a point or is longer than what is kept) each field is told once, in the order of rows and
+/// line that begins with a point or is longer than what is kept) each field is emitted once, in the order of rows and
 /// columns, with its bytes, wherever a page stands between the rows of a table without `nospaces`; so it stands after
 /// `.TS`, a line of options or none, and a line of formats of 1 to 64 letters `l`, `r`, `c`, blanks and a point.
 pub fn rows_are_emitted()
@@ -38,11 +38,11 @@ pub fn rows_are_emitted()
     ensures tables { TablesAreEmitted }
 {}
 
-/// Who sets a table holds such rows as they were told: the text of each field once, in the order of rows and columns, and each row
+/// Who sets a table holds such rows as they were emitted: the text of each field once, in the order of rows and columns, and each row
 /// with its fields. So it is in a table with one line of formats that holds no rows yet, where there is room for all of them, so
 /// that no part of the table goes out before its end.
 ///
-/// Proved: What is held of a table with one line of formats, once such rows were told and before any goes out, is the
+/// Proved: What is held of a table with one line of formats, once such rows were emitted and before any goes out, is the
 /// text of each field once, in the order of rows and columns, and each row with its own, where there is room for all.
 pub fn rows_are_held()
     ensures { RowsAreHeld }

@@ -179,7 +179,7 @@ fitting_between p few =
 
 -- ---- text blocks
 
--- the page where the row goes on behind a block
+-- the page where the row goes on after a block
 abbrev gone_on : Page → Page
 gone_on p = record p { state = record (states.field_counted p.state) { mode = modes.Row }; from = field_at p; start = field_at p }
 

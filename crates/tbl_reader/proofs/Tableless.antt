@@ -98,7 +98,7 @@ none_after starts.Other b bs k h = absurd (let no : false ≡ true = k in cc)
 no_name : (b : ℕ) (bs : List ℕ) → has_table_from true (code "." ∷ code "T" ∷ code "S" ∷ b ∷ bs) ≡ false → ((b == code "\n") || ends_name b) ≡ false
 no_name b bs h = or_first ((b == code "\n") || ends_name b) (has_table_from (b == code "\n") bs) h
 
--- no line with a table ends behind what is held
+-- no line with a table ends after what is held
 no_end : (s : Start) (b : ℕ) (bs : List ℕ) → (b == code "\n") ≡ true → is_held s ≡ true → has_table_from true (held s ++ b ∷ bs) ≡ false → begins_command s ≡ false
 unfolding held is_held
 no_end starts.Nothing b bs e k h = refl

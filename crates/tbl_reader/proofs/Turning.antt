@@ -9,8 +9,8 @@ use Rattle.tbl_reader.specs.Pages.{Page}
 use Rattle.tbl_reader.specs.Reading.{read, fed}
 use Rattle.tbl_reader.specs.Reading as read_some
 use Rattle.tbl_reader.specs.Running.{Came, Ends, Took, Ended, Turns, Stands, IsDone, IsCut, IsBroken}
-use Rattle.tbl_reader.specs.declared.running.Turn.{Turn}
-use Rattle.tbl_reader.specs.declared.running.Turn.TheVariants as turns
+use Rattle.tbl_reader.specs.declared.running.TurnResult.{TurnResult}
+use Rattle.tbl_reader.specs.declared.running.TurnResult.TheVariants as turns
 use Rattle.tbl_reader.specs.Telling.{Piece, Tells}
 use Rattle.tbl_reader.proofs.Counting.{cut_few, page_few}
 use Rattle.tbl_reader.proofs.Hearing.{tells_append, tells_then}
@@ -107,7 +107,7 @@ Stands-took shows hears l cells first a b p q old now new taken n s t = record {
   lines = (let x = s.lines in let y = t.lines in omega (arith, x, y));
 }
 
--- with the end all was told
+-- with the end all was emitted
 pub emitted-all : {A S : Type 0} (shows : A → S → Type 0) (hears : Piece → S → S) (l : Limits) (cells : ℕ) (first a b : Option Supply) (p q : Page) (old now new : A) (taken : ℕ)
     → (s : Stands shows hears l cells first a p old now taken) → Ended shows hears a b p q now new → Tells shows hears (page_said l cells s.bytes) old new
 emitted-all shows hears l cells first a b p q old now new taken s e =
@@ -134,7 +134,7 @@ pub Ran-long : {A S : Type 0} (shows : A → S → Type 0) (hears : Piece → S 
 Ran-long shows hears l cells first a p old now taken s all = record { bytes = s.bytes; came = s.came; count = s.count ∙ all; emitted = s.emitted; few = cut_few l cells s.bytes }
 
 -- one who heard what a turn says could not put out all of it
-pub Ran-broken : {A S : Type 0} (shows : A → S → Type 0) (hears : Piece → S → S) (l : Limits) (cells : ℕ) (first a b : Option Supply) (p q : Page) (old now new : A) (taken : ℕ) (turn : Turn)
+pub Ran-broken : {A S : Type 0} (shows : A → S → Type 0) (hears : Piece → S → S) (l : Limits) (cells : ℕ) (first a b : Option Supply) (p q : Page) (old now new : A) (taken : ℕ) (turn : TurnResult)
     → Stands shows hears l cells first a p old now taken → Turns shows hears a b p q now new turn → IsBroken shows hears l cells first b old new
 Ran-broken shows hears l cells first a b p q old now new taken (turns.Took n) s t =
     let on = Stands-took shows hears l cells first a b p q old now new taken n s t in
@@ -241,7 +241,7 @@ pub Stands-stays : {A S : Type 0} (shows : A → S → Type 0) (hears : Piece �
     → Stands shows hears l cells first a p old now taken → Stays l cells p
 Stands-stays shows hears l cells first a p old now taken s = fed_stays l cells s.bytes p s.page
 
-pub Turns-stay : {A S : Type 0} (shows : A → S → Type 0) (hears : Piece → S → S) (l : Limits) (cells : ℕ) (first a b : Option Supply) (p q : Page) (old now new : A) (taken : ℕ) (turn : Turn)
+pub Turns-stay : {A S : Type 0} (shows : A → S → Type 0) (hears : Piece → S → S) (l : Limits) (cells : ℕ) (first a b : Option Supply) (p q : Page) (old now new : A) (taken : ℕ) (turn : TurnResult)
     → Stands shows hears l cells first a p old now taken → Turns shows hears a b p q now new turn → Stays l cells q
 Turns-stay shows hears l cells first a b p q old now new taken (turns.Took n) s t =
     Stands-stays shows hears l cells first b q old new (taken + n) (Stands-took shows hears l cells first a b p q old now new taken n s t)

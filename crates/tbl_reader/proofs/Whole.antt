@@ -70,7 +70,7 @@ fed_passes (b ∷ bs) s p h =
     (effect (at_mode (modes.Passing (start_after (code "S") bs next)) p) (each tells.Pass bs))
     (read_at b s p (and_first (b == code "\n") (is_line bs) h)) (fed_passes bs next p (and_second (b == code "\n") (is_line bs) h))
 
--- the line behind
+-- the line after
 after_line : Bool → Page → List Piece → Effect
 after_line begun p said = let e = line_passed begun p in effect e.page (said ++ e.pieces)
 

@@ -17,7 +17,7 @@ use Rattle.tbl_reader.specs.RowLines.{last_field}
 use Rattle.tbl_reader.specs.States.{first_state}
 use Rattle.tbl_reader.specs.Telling.{Piece, piece, each}
 
--- something is wrong at the end, which is told of the line of the last byte; a line starts there, or doesn't
+-- something is wrong at the end, which is emitted of the line of the last byte; a line starts there, or doesn't
 abbrev pub last_line : Bool → ℕ → ℕ
 last_line starts line = if starts && nat_lt 1 line then line - 1 else line
 

@@ -102,7 +102,7 @@ abbrev pub overruns : Sure → ℕ → ℕ → Bool
 overruns sures.Text cells left = nat_lt left cells
 overruns sure cells left = false
 
--- it was told: of this table nothing more is
+-- it was reported: of this table nothing more is
 abbrev pub emitted : Measure → Measure
 emitted m = record m { sure = sures.Nothing }
 

@@ -56,7 +56,7 @@ kept_more p = if nat_lt (limit_of p) (length p.kept) then overflown p else effec
 abbrev pub kept : ℕ → Page → Effect
 kept b p = if b == code "\n" then line_ended p else kept_more (with_kept (b ∷ []) p)
 
--- a byte of a line in a text block, of which a part was told
+-- a byte of a line in a text block, of which a part was emitted
 abbrev pub block_goes_on : ℕ → Page → Effect
 block_goes_on b p =
     effect (if b == code "\n"

@@ -171,7 +171,7 @@ long_end p =
 abbrev pub row_so_far : State → List Piece
 row_so_far s = if nat_lt 0 s.fields then piece tells.Row [] ∷ [] else []
 
--- what was told of the row is one, and the rest stands as it is
+-- what was emitted of the row is one, and the rest stands as it is
 abbrev pub row_overflown : Page → Effect
 row_overflown p =
     effect (forgotten (at_mode (modes.Plain Other) p))

@@ -5,8 +5,8 @@ use Rattle.nr_units.specs.Source.{Supply}
 use Rattle.tbl_reader.specs.declared.reader.Limits.{Limits}
 use Rattle.tbl_reader.specs.declared.running.Outcome.{Outcome}
 use Rattle.tbl_reader.specs.declared.running.Outcome.TheVariants.{Done, ReadFault, TooLong, WriteFault}
-use Rattle.tbl_reader.specs.declared.running.Turn.{Turn}
-use Rattle.tbl_reader.specs.declared.running.Turn.TheVariants as turns
+use Rattle.tbl_reader.specs.declared.running.TurnResult.{TurnResult}
+use Rattle.tbl_reader.specs.declared.running.TurnResult.TheVariants as turns
 use Rattle.tbl_reader.specs.Ending.{finished, first_page, page_said}
 use Rattle.tbl_reader.specs.Pages.{Page}
 use Rattle.tbl_reader.specs.Reading.{Fits, fed}
@@ -44,17 +44,17 @@ pub record Ended {A S : Type 0} (shows : A → S → Type 0) (hears : Piece → 
   pub emitted : Tells shows hears (finished p).pieces old new
 
 abbrev pub Turns : {A S : Type 0} → (A → S → Type 0) → (Piece → S → S) → Option Supply → Option Supply → Page
-    → Page → A → A → Turn → Type 0
+    → Page → A → A → TurnResult → Type 0
 Turns shows hears a b p q old new (turns.Took n) = Took shows hears a b p q old new n
 Turns shows hears a b p q old new turns.End = Ended shows hears a b p q old new
 Turns shows hears a b p q old new turns.ReadFault = Took shows hears a b p q old new 0
 
 -- one byte at least is taken, and not too many
-abbrev pub IsMeasured : ℕ → Turn → Type 0
+abbrev pub IsMeasured : ℕ → TurnResult → Type 0
 IsMeasured most (turns.Took n) = (0 < n) × (n ≤ most)
 IsMeasured most turn = Unit {0}
 
-abbrev pub is_fault : Turn → Bool
+abbrev pub is_fault : TurnResult → Bool
 is_fault turns.ReadFault = true
 is_fault turn = false
 
@@ -71,7 +71,7 @@ pub record Stands {A S : Type 0} (shows : A → S → Type 0) (hears : Piece →
   pub fits : Fits p
   pub lines : p.state.line ≤ taken + 1
 
--- all bytes came, and what they say was told: sixteen pieces for each at most, and as many more
+-- all bytes came, and what they say was emitted: sixteen pieces for each at most, and as many more
 pub record IsDone {A S : Type 0} (shows : A → S → Type 0) (hears : Piece → S → S) (l : Limits) (cells : ℕ)
     (first last : Option Supply) (old new : A) : Type 0 where
   pub bytes : List ℕ
@@ -80,7 +80,7 @@ pub record IsDone {A S : Type 0} (shows : A → S → Type 0) (hears : Piece →
   pub emitted : Tells shows hears (page_said l cells bytes) old new
   pub few : length (page_said l cells bytes) ≤ 16 * (length bytes + 1)
 
--- so many bytes came, and what they say was told, but of what is half read
+-- so many bytes came, and what they say was emitted, but of what is half read
 pub record IsCut {A S : Type 0} (shows : A → S → Type 0) (hears : Piece → S → S) (l : Limits) (cells : ℕ)
     (first last : Option Supply) (old new : A) (at : ℕ) : Type 0 where
   pub bytes : List ℕ
@@ -89,7 +89,7 @@ pub record IsCut {A S : Type 0} (shows : A → S → Type 0) (hears : Piece → 
   pub emitted : Tells shows hears (fed bytes (first_page l cells)).pieces old new
   pub few : length (fed bytes (first_page l cells)).pieces ≤ 16 * length bytes
 
--- some bytes came, and what they say was told, without the end or with it, to one who could not put all of it out
+-- some bytes came, and what they say was emitted, without the end or with it, to one who could not put all of it out
 pub record IsBroken {A S : Type 0} (shows : A → S → Type 0) (hears : Piece → S → S) (l : Limits) (cells : ℕ)
     (first last : Option Supply) (old new : A) : Type 0 where
   pub bytes : List ℕ
@@ -110,7 +110,7 @@ abbrev pub is_write_fault : Outcome → Bool
 is_write_fault WriteFault = true
 is_write_fault outcome = false
 
--- a read fault is told where a call of the source failed, and else none failed, but where what was told could not be put out
+-- a read fault is emitted where a call of the source failed, and else none failed, but where what was emitted could not be put out
 abbrev pub TellsReads : Outcome → ℕ → ℕ → Type 0
 TellsReads Done before after = after ≡ before
 TellsReads (ReadFault at) before after = after ≡ next_count before

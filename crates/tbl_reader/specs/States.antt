@@ -63,7 +63,7 @@ field_counted s = record s { fields = one_more s.fields 65 }
 abbrev pub is_beyond : State → Bool
 is_beyond s = nat_le s.formats.columns s.fields
 
--- a field of so many cells passes the end of the line, which is told once
+-- a field of so many cells passes the end of the line, which is reported once
 abbrev pub passes_line : ℕ → State → Bool
 passes_line cells s = overruns s.measure.sure cells s.measure.left
 

@@ -80,7 +80,7 @@ impl Reader {
         }
     }
 
-    /// A line of a text block is told.
+    /// A line of a text block is emitted.
     fn tells_block_line<S: Setter>(&mut self, setter: &mut S)
         ensures page { self.new ≡ (specs.block_said self.old).page }
         ensures emitted { Tells S.shows S.hears (specs.block_said self.old).pieces setter.old setter.new }
@@ -91,7 +91,7 @@ impl Reader {
         self.forgets();
     }
 
-    /// The beginning of such a line is told, the rest of which is not kept.
+    /// The beginning of such a line is emitted, the rest of which is not kept.
     fn tells_line_begun<S: Setter>(&mut self, setter: &mut S)
         ensures page { self.new ≡ (specs.block_line_begun self.old).page }
         ensures emitted { Tells S.shows S.hears (specs.block_line_begun self.old).pieces setter.old setter.new }

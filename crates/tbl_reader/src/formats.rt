@@ -163,7 +163,7 @@ impl Formats {
         }
     }
 
-    /// A byte is no part of a format, or lacks what it needs: the first one is told.
+    /// A byte is no part of a format, or lacks what it needs: the first one is emitted.
     fn blames(&mut self, byte: u8)
         ensures { self.new ≡ specs.blaming byte self.old }
     {

@@ -1,4 +1,4 @@
-//! tbl: the tables of a page are read, and what they say is told to who sets them.
+//! tbl: the tables of a page are read, and what they say is emitted to who sets them.
 //!
 //! It stands on nr_units, nr_vectors and tbl_blocks. To read: `complaint`, `passing`, `command`; `options`, `numbers`, `formats`,
 //! `widths`, `measure`, `field`; `telling`, `state`, `reader`, `head`, `rows`, `blocks`, `ending`, `quiet`;

@@ -32,14 +32,14 @@ pub(crate) struct Cells {
     pub count: usize,
 }
 
-/// By what a table may still be told as wider than the line.
+/// By what a table may still be reported as wider than the line.
 #[derive(Clone, Copy)]
 pub(crate) enum Sure {
     /// The text of a row, and the widths of its formats.
     Text,
     /// These widths alone: a column may have less room than its field's text.
     Widths,
-    /// Nothing more: it was told.
+    /// Nothing more: it was reported.
     Nothing,
 }
 
@@ -143,7 +143,7 @@ impl Cells {
     }
 }
 
-/// How many bytes at the front of a text take a cell each, which most texts have alone.
+/// How many bytes at the beginning of a text take a cell each, which most texts have alone.
 #[tactic(auto, using(crate::proofs::Plain::plain_next))]
 fn plain_prefix(text: &[u8]) -> usize
     ensures within { result ≤ length text.now }
@@ -233,7 +233,7 @@ impl Measure {
         matches!(self.sure, Sure::Text) && self.left < cells
     }
 
-    /// That was told.
+    /// That was reported.
     pub(crate) fn emitted(self) -> Measure
         ensures { result ≡ specs.emitted self }
     {

@@ -258,7 +258,7 @@ impl Reader {
         }
     }
 
-    /// Bytes of a line in a text block of which a part was told.
+    /// Bytes of a line in a text block of which a part was emitted.
     fn takes_block<S: Setter>(&mut self, bytes: &[u8], setter: &mut S) -> usize
         requires some { 0 < length bytes.now }
         requires lines { self.old.state.line + length bytes.now < 2 ^ 64 }

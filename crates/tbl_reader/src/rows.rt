@@ -166,7 +166,7 @@ impl State {
         }
     }
 
-    /// A field of text is told.
+    /// A field of text is emitted.
     fn tell_text<S: Setter>(&mut self, text: &[u8], setter: &mut S)
         ensures state { self.new ≡ (lines.text_said self.old text.now).state }
         ensures emitted { Tells S.shows S.hears (lines.text_said self.old text.now).pieces setter.old
@@ -179,7 +179,7 @@ impl State {
         }
     }
 
-    /// A field of this shape is told.
+    /// A field of this shape is emitted.
     fn tell_shape<S: Setter>(&mut self, shape: Shape, text: &[u8], setter: &mut S)
         ensures state { self.new ≡ (lines.shape_said shape self.old text.now).state }
         ensures emitted { Tells S.shows S.hears (lines.shape_said shape self.old text.now).pieces setter.old
@@ -192,7 +192,7 @@ impl State {
         }
     }
 
-    /// A field in a column is told.
+    /// A field in a column is emitted.
     fn tell_field<S: Setter>(&mut self, text: &[u8], setter: &mut S)
         ensures state { self.new ≡ (lines.field_said self.old text.now).state }
         ensures emitted { Tells S.shows S.hears (lines.field_said self.old text.now).pieces setter.old
@@ -203,7 +203,7 @@ impl State {
         self.counts_field();
     }
 
-    /// The last field of a row is told; one beyond the columns is text, or nothing.
+    /// The last field of a row is emitted; one beyond the columns is text, or nothing.
     pub(crate) fn tell_last<S: Setter>(&mut self, text: &[u8], setter: &mut S)
         ensures state { self.new ≡ (lines.last_said self.old text.now).state }
         ensures emitted { Tells S.shows S.hears (lines.last_said self.old text.now).pieces setter.old
@@ -265,7 +265,7 @@ impl Reader {
         }
     }
 
-    /// The field is told that ends so far after the beginning of the line.
+    /// The field is emitted that ends so far after the beginning of the line.
     fn tell_ended_at<S: Setter>(&mut self, len: usize, setter: &mut S)
         requires { self.old.start + len < length self.old.kept }
         ensures page { self.new ≡ lines.after_field len self.old }
@@ -313,7 +313,7 @@ impl Reader {
         self.state.mode = Mode::Row;
     }
 
-    /// What stands after the last field that was told: a rule, a text block that begins, or a field, and the row ends.
+    /// What stands after the last field that was emitted: a rule, a text block that begins, or a field, and the row ends.
     fn tell_rest<S: Setter>(&mut self, setter: &mut S)
         ensures page { self.new ≡ (lines.rest_emitted self.old).page }
         ensures emitted { Tells S.shows S.hears (lines.rest_emitted self.old).pieces setter.old setter.new }
@@ -332,7 +332,7 @@ impl Reader {
         }
     }
 
-    /// The last field of a row is told.
+    /// The last field of a row is emitted.
     pub(crate) fn tell_last_field<S: Setter>(&mut self, setter: &mut S)
         ensures page { self.new ≡ (lines.last_field self.old).page }
         ensures emitted { Tells S.shows S.hears (lines.last_field self.old).pieces setter.old setter.new }
@@ -341,7 +341,7 @@ impl Reader {
         self.state.tell_last(text, setter);
     }
 
-    /// The last field of a row is told, and the row ends.
+    /// The last field of a row is emitted, and the row ends.
     fn last_field_ends<S: Setter>(&mut self, setter: &mut S)
         ensures page { self.new ≡ (lines.last_ended self.old).page }
         ensures emitted { Tells S.shows S.hears (lines.last_ended self.old).pieces setter.old setter.new }
@@ -374,7 +374,7 @@ impl Reader {
         self.state.complains(kind, setter);
     }
 
-    /// What was told of a row is one.
+    /// What was emitted of a row is one.
     fn row_is_cut<S: Setter>(&self, setter: &mut S)
         ensures { Tells S.shows S.hears (lines.row_so_far self.now.state) setter.old setter.new }
     {
@@ -383,7 +383,7 @@ impl Reader {
         }
     }
 
-    /// There is no room for more of a row: what was told of it is one, and the rest stands as it is.
+    /// There is no room for more of a row: what was emitted of it is one, and the rest stands as it is.
     pub(crate) fn row_overflows<S: Setter>(&mut self, setter: &mut S)
         ensures page { self.new ≡ (lines.row_overflown self.old).page }
         ensures emitted { Tells S.shows S.hears (lines.row_overflown self.old).pieces setter.old setter.new }

@@ -33,7 +33,7 @@ pub enum Outcome {
 
 /// What one turn came to.
 #[derive(Clone, Copy)]
-enum Turn {
+enum TurnResult {
     /// So many bytes were taken. More may come.
     Took(u64),
     /// The input has ended.
@@ -42,7 +42,7 @@ enum Turn {
     ReadFault,
 }
 
-/// Bytes at hand are taken, so many at most, and told how many: of none there is nothing at hand.
+/// Bytes at hand are taken, so many at most, and how many is returned: of none there is nothing at hand.
 fn take_at_hand<R: Source, S: Setter>(
     reader: &mut Reader,
     input: &mut R,
@@ -72,7 +72,7 @@ fn make_turn<R: Source, S: Setter>(
     input: &mut R,
     setter: &mut S,
     most: u64,
-) -> Turn
+) -> TurnResult
     requires some { 0 < most }
     requires lines { reader.old.state.line + most < 2 ^ 64 }
     requires fits { Fits reader.old }
@@ -83,24 +83,24 @@ fn make_turn<R: Source, S: Setter>(
 {
     let count = take_at_hand(reader, input, setter, most);
     if count > 0 {
-        return Turn::Took(count);
+        return TurnResult::Took(count);
     }
     match input.next() {
         Ok(Some(byte)) => {
             reader.read(&[byte], setter);
-            Turn::Took(1)
+            TurnResult::Took(1)
         }
         Ok(None) => {
             reader.finish(setter);
-            Turn::End
+            TurnResult::End
         }
-        Err(Fault) => Turn::ReadFault,
+        Err(Fault) => TurnResult::ReadFault,
     }
 }
 
 /// Reads all that the input gives, and tells what it says of tables and what is outside of them. Nothing is allocated.
 ///
-/// What is told is one function of the bytes that came, however they came. At a read fault, and where the input is too long,
+/// What is emitted is one function of the bytes that came, however they came. At a read fault, and where the input is too long,
 /// it is that of the bytes before, but for what is half read. Where the setter fails, no more is read.
 ///
 /// Proved: What is said of a page is one function of the bytes that came, of the two limits and of the line's length,
@@ -119,7 +119,7 @@ pub fn read_page<R: Source, S: Setter>(
 ) -> Outcome
     ensures ran { specs.Ran S.shows S.hears reader.old.limits reader.old.state.measure.line
         (R.supply input.old) (R.supply input.new) setter.old setter.new result }
-    // A read fault is told only where the source failed once, and then always, but where the setter fails too.
+    // A read fault is emitted only where the source failed once, and then always, but where the setter fails too.
     ensures read_faults { specs.TellsReads result (R.failures input.old) (R.failures input.new) }
     ensures write_faults { S.failed setter.new ≡ specs.is_write_fault result }
     // Whole lines are read: those outside of tables pass, and those of a table that there is room for are taken as wholes.
@@ -137,9 +137,9 @@ pub fn read_page<R: Source, S: Setter>(
             return Outcome::WriteFault;
         }
         match turn {
-            Turn::Took(count) => taken += count,
-            Turn::End => return Outcome::Done,
-            Turn::ReadFault => return Outcome::ReadFault { at: taken },
+            TurnResult::Took(count) => taken += count,
+            TurnResult::End => return Outcome::Done,
+            TurnResult::ReadFault => return Outcome::ReadFault { at: taken },
         }
     }
     Outcome::TooLong

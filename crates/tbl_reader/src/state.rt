@@ -31,7 +31,7 @@ pub(crate) enum Mode {
     Row,
     /// In a line of a text block.
     Block,
-    /// In such a line, of which a part was told.
+    /// In such a line, of which a part was emitted.
     BlockLine,
     /// In a line of a table that isn't set, which begins so.
     Plain(Start),
@@ -135,7 +135,7 @@ impl State {
         self.fields >= self.formats.columns
     }
 
-    /// Whether a field of so many cells passes the end of the line, which is told once; else it is taken.
+    /// Whether a field of so many cells passes the end of the line, which is reported once; else it is taken.
     pub(crate) fn passes_line(&mut self, cells: usize) -> bool
         ensures emitted { result ≡ specs.passes_line cells self.old }
         ensures state { self.new ≡ specs.cells_taken cells self.old }

@@ -175,7 +175,7 @@ line_becomes old new tell is text t same comes become =
     subst (λ (k : Tell). Becomes old new (set_in k text t)) (sym same)
     (subst (Becomes old new) (sym comes) (subst (λ (k : Tell). Becomes old new (relieved (line_set k text t))) same become))
 
--- where nothing is wrong nothing is told
+-- where nothing is wrong nothing is reported
 pub nothing_reported : {old new : MutBor (Items Complaint)} {before missed : Bool} → IsSame old before new missed → Notes old new before missed []
 nothing_reported {old} {new} {before} {missed} (stays, none) = record {
   same = ap (λ (b : MutBor (Items Complaint)). b.ghost_name) stays;

@@ -16,7 +16,7 @@ use Rattle.tbl_setting.specs.Stepping.{AreKept, Sent, pieces_bytes}
 use Rattle.tbl_setting.proofs.Runs.{prefix_out, lent, went_out}
 use Rattle.tbl_setting.proofs.Pieces.{heard-said}
 
--- ---- one who has heard nothing since these complaints were told
+-- ---- one who has heard nothing since these complaints were reported
 
 noting : List Complaint → Tape → MutBor Setting → MutBor (Items Complaint) → Shown
 noting all out table kept = record (lent out table kept) { wrong = all }

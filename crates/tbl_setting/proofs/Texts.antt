@@ -25,7 +25,7 @@ text_passed (b ∷ bs) s is = by_byte (text_passed bs s is) (b == 10) refl
         ∙ later
         ∙ sym (ap (heard bs) (unheard b s other is))
 
--- what is told of it
+-- what is reported of it
 pub text_heard : (text : List ℕ) (s : Watching) (n : ℕ) → n ≡ text_len text s.watch → 0 < n → heard (drop n text) s ≡ heard text s
 text_heard text s n is some = by_line (is_text s.watch.line.items) refl
   where

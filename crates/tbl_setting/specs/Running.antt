@@ -1,4 +1,4 @@
--- The tables of a page are turned: what goes out is one function of the bytes that came, and what is wrong with them was told.
+-- The tables of a page are turned: what goes out is one function of the bytes that came, and what is wrong with them was reported.
 use Rattle.std.specs.Prelude.{◌≡◌, ℕ, ◌+◌, List, length, Bool, true, false, Option, ◌⊎◌}
 use Rattle.std.specs.Io.KnownBytes.{Appends}
 use Rattle.nr_vectors.specs.Items.{Items}
@@ -45,7 +45,7 @@ said_so_far l cells bytes = (fed bytes (first_page l cells)).pieces
 abbrev pub set_so_far : Bounds → List ℕ → List ℕ
 set_so_far b bytes = set_bytes b (said_so_far b.limits b.cells bytes)
 
--- these bytes went out, what is wrong with what was said was told, and whether a table that was held went out in parts whose columns may
+-- these bytes went out, what is wrong with what was said was reported, and whether a table that was held went out in parts whose columns may
 -- differ
 pub record Puts (out : List ℕ) (said : List Piece) (s : Setting) (held new : Option (List ℕ)) (kept : Items Complaint)
     (missed uneven : Bool) : Type 0 where
@@ -61,7 +61,7 @@ pub record IsDone (b : Bounds) (first last : Option Supply)
   pub ends : Ends first last
   pub puts : Puts (set_page b bytes) (page_said b.limits b.cells bytes) (page_setting b) held new kept missed uneven
 
--- so many bytes came, and what is half read neither went out nor was told
+-- so many bytes came, and what is half read neither went out nor was reported
 pub record IsCut (b : Bounds) (first last : Option Supply)
     (held new : Option (List ℕ)) (kept : Items Complaint) (missed uneven : Bool) (at : ℕ) : Type 0 where
   pub bytes : List ℕ
@@ -69,7 +69,7 @@ pub record IsCut (b : Bounds) (first last : Option Supply)
   pub count : length bytes ≡ at
   pub puts : Puts (set_so_far b bytes) (said_so_far b.limits b.cells bytes) (page_setting b) held new kept missed uneven
 
--- a part of these bytes went out, what is wrong with what was said was told, and so were such parts
+-- a part of these bytes went out, what is wrong with what was said was reported, and so were such parts
 pub record PutsPrefix (out : List ℕ) (said : List Piece) (s : Setting) (held new : Option (List ℕ)) (kept : Items Complaint)
     (missed uneven : Bool) : Type 0 where
   pub went_out : AppendsPrefix held new out

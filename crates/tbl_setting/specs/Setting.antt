@@ -162,7 +162,7 @@ pub record Keeps (all : List Complaint) (kept : Items Complaint) (missed : Bool)
   pub first : kept.items ≡ take kept.capacity all
   pub others : missed ≡ nat_lt kept.capacity (length all)
 
--- what was told with them stays, and these were told too
+-- what was reported with them stays, and these were reported too
 abbrev pub KeepsMore : Items Complaint → Bool → Items Complaint → Bool → List Complaint → Type 0
 KeepsMore old before new missed more =
     (all : List Complaint) → Keeps all old before → Keeps (all ++ more) new missed
@@ -174,7 +174,7 @@ pub record Notes (old new : MutBor (Items Complaint)) (before missed : Bool)
   pub room : new.now.capacity ≡ old.now.capacity
   pub keeps : KeepsMore old.now before new.now missed more
 
--- nothing was told
+-- nothing was reported
 abbrev pub IsSame : MutBor (Items Complaint) → Bool → MutBor (Items Complaint) → Bool → Type 0
 IsSame old before new missed = (new ≡ old) × (missed ≡ before)
 

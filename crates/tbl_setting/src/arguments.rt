@@ -80,7 +80,7 @@ fn number_read(count: usize, number: usize) -> Option<usize>
     if count == 0 { None } else { Some(number) }
 }
 
-/// The number that digits at the front of a text write, 999 at most.
+/// The number that digits at the beginning of a text write, 999 at most.
 pub(crate) fn number_of(text: &[u8]) -> Option<usize>
     ensures { result ≡ specs.number_of text.now }
 {

@@ -1,4 +1,4 @@
-//! What was read of a table is told to the one that holds it.
+//! What was read of a table is emitted to the one that holds it.
 ghost use Rattle.std.specs.Prelude.{◌≡◌};
 ghost use Rattle.tbl_table.specs.Held.{emptied};
 ghost use Rattle.tbl_setting.specs.Hearing as specs;

@@ -1,4 +1,4 @@
-//! What was read is told to what holds a table, and goes out.
+//! What was read is emitted to what holds a table, and goes out.
 ghost use Rattle.std.specs.Prelude.{◌≡◌, ◌++◌, [], ◌∷◌, true, false};
 ghost use Rattle.tbl_drawing.specs.Pens.{Bytes};
 ghost use Rattle.tbl_drawing.specs.Tapes.{Draws};
@@ -82,7 +82,7 @@ impl<'t, 'p, 'k, 'c, W: Sink> Press<'t, 'p, 'k, 'c, W> {
         }
     }
 
-    /// A complaint that waited for the table is told, if the table is wider than the line.
+    /// A complaint that waited for the table is reported, if the table is wider than the line.
     fn tell_wide(&mut self)
         ensures out { self.new.out ≡ self.old.out }
         ensures setting { self.new.setting ≡ self.old.setting }

@@ -127,7 +127,7 @@ impl Rooms {
     }
 }
 
-/// The input is read, and what is told of it set.
+/// The input is read, and what is reported of it set.
 fn run<R: Source, W: Sink>(
     reader: &mut Reader,
     input: &mut R,

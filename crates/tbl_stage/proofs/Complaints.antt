@@ -47,7 +47,7 @@ kept_out all kept missed k =
     let cut = length-take kept.capacity all in
     (omega (arith, count, cut), missed_so all kept.capacity (length kept.items) missed k.others count)
 
--- and more are told
+-- and more are reported
 pub kept_more : (old new : Items Complaint) (before missed : Bool) (more : List Complaint) → HoldsFirst old before → KeepsMore old before new missed more → HoldsFirst new missed
 kept_more old new before missed more holds keeps =
     let all = kept_in old before holds in

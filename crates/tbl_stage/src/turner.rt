@@ -19,7 +19,7 @@ const MOST: usize = 1_099_511_627_775;
 ///
 /// Proved: A page that is turned a part at a time comes to the same: what goes out of the parts, one after another,
 /// and of the end is `set_page`, in whatever parts it comes, as long as no byte, nor the end, comes to more than the
-/// limit; and else a front of it. (`over`, and `turned_page` of tbl_stage's laws)
+/// limit; and else a prefix of it. (`over`, and `turned_page` of tbl_stage's laws)
 #[derive(Drop)]
 pub struct Turner<'a> {
     tables: &'a mut Tables,

@@ -91,7 +91,7 @@ is_rule t l = are_ruling l.count t l
 abbrev pub with_next_line : ℕ → Table → Table
 with_next_line n t = record t { next_line = n }
 
--- of so many lines of formats those in front that are rules; the last line stays
+-- of so many lines of formats the first that are rules; the last line stays
 abbrev pub rules_in : ℕ → Table → Table
 rules_in zero t = t
 rules_in (suc n) t =

@@ -122,7 +122,7 @@ impl Memory for Scarce {
 
 /// A run: its words, what it prints, its status, its line, and how many texts it opened.
 #[derive(Drop)]
-struct Row {
+struct Case {
     words: &'static [&'static str],
     output: &'static [u8],
     status: u8,
@@ -139,15 +139,15 @@ static TEXTS: [(&str, Page<'static>); 6] = [
     ("lib/tmac.short", Page::Bytes(b".pl 2v\n")),
 ];
 
-static ROWS: [Row; 19] = [
-    Row {
+static ROWS: [Case; 19] = [
+    Case {
         words: &[],
         output: b"in\n",
         status: 0,
         line: b"",
         opened: 1,
     },
-    Row {
+    Case {
         words: &["-"],
         output: b"in\n",
         status: 0,
@@ -155,35 +155,35 @@ static ROWS: [Row; 19] = [
         opened: 1,
     },
     // Neither file ends with a newline.
-    Row {
+    Case {
         words: &["one", "two"],
         output: b"one two\n",
         status: 0,
         line: b"",
         opened: 2,
     },
-    Row {
+    Case {
         words: &["one", "empty", "two"],
         output: b"one two\n",
         status: 0,
         line: b"",
         opened: 3,
     },
-    Row {
+    Case {
         words: &["-i", "one"],
         output: b"one in\n",
         status: 0,
         line: b"",
         opened: 2,
     },
-    Row {
+    Case {
         words: &["-i"],
         output: b"in\n",
         status: 0,
         line: b"",
         opened: 1,
     },
-    Row {
+    Case {
         words: &["one", "-", "two"],
         output: b"one in two\n",
         status: 0,
@@ -191,21 +191,21 @@ static ROWS: [Row; 19] = [
         opened: 3,
     },
     // Macro files come first, in the folder that was given last.
-    Row {
+    Case {
         words: &["-mshort", "two"],
         output: b"two\n",
         status: 0,
         line: b"",
         opened: 2,
     },
-    Row {
+    Case {
         words: &["-mshort", "-Mno", "-Mlib", "two"],
         output: b"two\n\n",
         status: 0,
         line: b"",
         opened: 2,
     },
-    Row {
+    Case {
         words: &["-Mno", "-mshort"],
         output: b"",
         status: 3,
@@ -213,35 +213,35 @@ static ROWS: [Row; 19] = [
         opened: 0,
     },
     // Words after the first file are files.
-    Row {
+    Case {
         words: &["one", "-i"],
         output: b"",
         status: 3,
         line: b"nroff: cannot open -i\n",
         opened: 1,
     },
-    Row {
+    Case {
         words: &["-", "-s"],
         output: b"",
         status: 3,
         line: b"nroff: cannot open -s\n",
         opened: 1,
     },
-    Row {
+    Case {
         words: &["one", "none", "nor"],
         output: b"",
         status: 3,
         line: b"nroff: cannot open none\n",
         opened: 1,
     },
-    Row {
+    Case {
         words: &[""],
         output: b"",
         status: 3,
         line: b"nroff: cannot open \n",
         opened: 0,
     },
-    Row {
+    Case {
         words: &["one", "folder"],
         output: b"",
         status: 3,
@@ -249,28 +249,28 @@ static ROWS: [Row; 19] = [
         opened: 2,
     },
     // The first bad word is reported, before anything is opened.
-    Row {
+    Case {
         words: &["-o5-3", "-s", "none"],
         output: b"",
         status: 2,
         line: b"nroff: bad value in -o5-3\n",
         opened: 0,
     },
-    Row {
+    Case {
         words: &["-s2", "one"],
         output: b"",
         status: 2,
         line: b"nroff: option -s is not in this profile\n",
         opened: 0,
     },
-    Row {
+    Case {
         words: &["-x"],
         output: b"",
         status: 2,
         line: b"nroff: unknown option -x\n",
         opened: 0,
     },
-    Row {
+    Case {
         words: &["-Lp3", "one", "two"],
         output: b"",
         status: 1,
@@ -325,7 +325,7 @@ fn run_into<M: Memory>(
 }
 
 /// Whether a run comes to what its row says.
-fn agrees<M: Memory>(alloc: Global, memory: &mut M, row: &Row) -> bool {
+fn agrees<M: Memory>(alloc: Global, memory: &mut M, row: &Case) -> bool {
     let ran = run(alloc, memory, row.words);
     let is_same = ran.output.as_slice() == row.output && ran.line.as_slice() == row.line;
     is_same && (ran.status, ran.opened) == (row.status, row.opened)
@@ -342,8 +342,8 @@ fn rows(rt: HostRuntime) {
     }
 }
 
-/// The same where so many calls for memory are met and the next is refused, and how many were refused.
-fn agrees_after(alloc: Global, before: usize, row: &Row) -> (bool, u64) {
+/// The same where so many calls for memory are granted and the next is refused, and how many were refused.
+fn agrees_after(alloc: Global, before: usize, row: &Case) -> (bool, u64) {
     let mut memory = Scarce {
         alloc,
         before,
@@ -357,7 +357,7 @@ fn agrees_after(alloc: Global, before: usize, row: &Row) -> (bool, u64) {
 #[test]
 fn tells_memory_that_is_refused(rt: HostRuntime) {
     for (before, opened) in [(0, 0), (1, 0), (2, 2)] {
-        let row = Row {
+        let row = Case {
             words: &["one", "two"],
             output: b"",
             status: 5,
@@ -369,7 +369,7 @@ fn tells_memory_that_is_refused(rt: HostRuntime) {
             "behind {before}"
         );
     }
-    let row = Row {
+    let row = Case {
         words: &["one", "two"],
         output: b"one two\n",
         status: 0,

@@ -20,7 +20,7 @@ struct Example<'a> {
     ends: &'a str,
 }
 
-/// Whether an example meets each fault as it must: its line is a name and, after a colon, where its pages end. Prints its
+/// Whether an example ends at each fault as it must: its line is a name and, after a colon, where its pages end. Prints its
 /// name where it does not.
 pub(crate) fn passes<R: Files + AllocGlobal + Print>(
     rt: &R,
@@ -44,7 +44,7 @@ pub(crate) fn passes<R: Files + AllocGlobal + Print>(
     Ok(good)
 }
 
-/// Whether an example meets each fault as it must, and gives its pages after all of them.
+/// Whether an example ends at each fault as it must, and gives its pages after all of them.
 fn survives_faults(desk: &mut Desk, example: Example<'_>) -> anyhow::Result<bool> {
     let agreed = input_fails(desk, example)?
         && output_fails(desk, example)

@@ -5,7 +5,7 @@ use mdoc_command::Mdoc;
 use std::cell::Cell;
 
 /// A run: its words, what it writes, its status and its lines. Standard input is the line `typed`.
-struct Row {
+struct Case {
     words: &'static [&'static [u8]],
     output: &'static [u8],
     status: u8,
@@ -27,99 +27,99 @@ static TEXTS: [(&str, Page<'static>); 6] = [
     ("cut", Page::Cut(b".TH x\na\n")),
 ];
 
-static ROWS: [Row; 15] = [
+static ROWS: [Case; 15] = [
     // A page that is none of mdoc passes as it is.
-    Row {
+    Case {
         words: &[b"mdoc"],
         output: b"typed\n",
         status: 0,
         lines: b"",
     },
-    Row {
+    Case {
         words: &[b"mdoc", b"page"],
         output: b".TH ROW 1 \"May 1, 2020\" \"\\*()O\"\n.ds )9 \\*()4\n.nr IN 5n\n.ad l\n.SH NAME\n\\fBrow\\fR\n\\(en a line\n",
         status: 0,
         lines: b"",
     },
     // Standard input stands where it is named, and ends once. Each file is turned by itself.
-    Row {
+    Case {
         words: &[b"mdoc", b"man", b"page", b"-", b"open", b"-"],
         output: b".TH x\na\n.TH ROW 1 \"May 1, 2020\" \"\\*()O\"\n.ds )9 \\*()4\n.nr IN 5n\n.ad l\n.SH NAME\n\\fBrow\\fR\n\\(en a line\ntyped\n.TH x\na",
         status: 0,
         lines: b"",
     },
     // What is wrong with a page is reported, and the others are turned.
-    Row {
+    Case {
         words: &[b"mdoc", b"wrong", b"man"],
         output: b".TH ROW 1 \"May 1, 2020\" \"\\*()O\"\n.ds )9 \\*()4\n.nr IN 5n\n.ad l\na\nb\n.TH x\na\n",
         status: 1,
         lines: b"mdoc: wrong:4: unknown macro: Xx\nmdoc: wrong:5: unknown macro: Xy\n",
     },
     // The first that can't be opened is reported, before anything is read.
-    Row {
+    Case {
         words: &[b"mdoc", b"folder", b"none", b"nor"],
         output: b"",
         status: 3,
         lines: b"mdoc: cannot open none\n",
     },
-    Row {
+    Case {
         words: &[b"mdoc", b"wrong", b"none"],
         output: b"",
         status: 3,
         lines: b"mdoc: cannot open none\n",
     },
-    Row {
+    Case {
         words: &[b"mdoc", b""],
         output: b"",
         status: 3,
         lines: b"mdoc: cannot open \n",
     },
     // What stands after a file is a file.
-    Row {
+    Case {
         words: &[b"mdoc", b"man", b"-x"],
         output: b"",
         status: 3,
         lines: b"mdoc: cannot open -x\n",
     },
-    Row {
+    Case {
         words: &[b"mdoc", b"-", b"--"],
         output: b"",
         status: 3,
         lines: b"mdoc: cannot open --\n",
     },
     // It has no option, and nothing is opened then.
-    Row {
+    Case {
         words: &[b"mdoc", b"-x", b"none"],
         output: b"",
         status: 2,
         lines: b"mdoc: unknown option -x\n",
     },
-    Row {
+    Case {
         words: &[b"mdoc", b"--"],
         output: b"",
         status: 2,
         lines: b"mdoc: unknown option --\n",
     },
     // What came before a fault is out, and nothing after it is read.
-    Row {
+    Case {
         words: &[b"mdoc", b"folder", b"man"],
         output: b"",
         status: 3,
         lines: b"mdoc: read fault at byte 0\n",
     },
-    Row {
+    Case {
         words: &[b"mdoc", b"man", b"cut", b"man"],
         output: b".TH x\na\n.TH x\na\n",
         status: 3,
         lines: b"mdoc: read fault at byte 8\n",
     },
-    Row {
+    Case {
         words: &[b"mdoc", b"wrong", b"folder"],
         output: b".TH ROW 1 \"May 1, 2020\" \"\\*()O\"\n.ds )9 \\*()4\n.nr IN 5n\n.ad l\na\nb\n",
         status: 3,
         lines: b"mdoc: wrong:4: unknown macro: Xx\nmdoc: wrong:5: unknown macro: Xy\nmdoc: read fault at byte 0\n",
     },
-    Row {
+    Case {
         words: &[b"mdoc", b"man", b"wrong", b"man", b"wrong"],
         output: b".TH x\na\n.TH ROW 1 \"May 1, 2020\" \"\\*()O\"\n.ds )9 \\*()4\n.nr IN 5n\n.ad l\na\nb\n.TH x\na\n.TH ROW 1 \"May 1, 2020\" \"\\*()O\"\n.ds )9 \\*()4\n.nr IN 5n\n.ad l\na\nb\n",
         status: 1,

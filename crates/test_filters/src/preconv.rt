@@ -5,7 +5,7 @@ use preconv_command::Preconv;
 use std::cell::Cell;
 
 /// A run: its words, what it writes, its status and its line. Standard input is `café` in UTF-8.
-struct Row {
+struct Case {
     words: &'static [&'static [u8]],
     output: &'static [u8],
     status: u8,
@@ -119,275 +119,275 @@ static TEXTS: [(&str, Page<'static>); 33] = [
     ("cut", Page::Cut(b"a\\~b\n.BR c\\(l")),
 ];
 
-static ROWS: [Row; 41] = [
-    Row {
+static ROWS: [Case; 41] = [
+    Case {
         words: &[b"preconv"],
         output: b"cafe\n",
         status: 0,
         line: b"",
     },
-    Row {
+    Case {
         words: &[b"preconv", b"-8"],
         output: b"caf\xe9\n",
         status: 0,
         line: b"",
     },
-    Row {
+    Case {
         words: &[b"preconv", b"-8", b"-8", b"latin"],
         output: b"na\xefve \xe9\n",
         status: 0,
         line: b"",
     },
     // Characters of the table are its bytes, by their names too.
-    Row {
+    Case {
         words: &[b"preconv", b"-u", b"latin", b"quotes"],
         output: b"\xffa\xbc \xb4 \\fIb\\fP\n",
         status: 0,
         line: b"",
     },
     // So are the acute accent's escape and the strings for quotes of -man; `.tr` of a sign to a quote makes it one.
-    Row {
+    Case {
         words: &[b"preconv", b"-u", b"english", b"quoted"],
         output: b"\xb4a \x88b\x89 \xae\n.tr \\(is'\n\\(aqc\\(aq \\`d \\(dqe\n",
         status: 0,
         line: b"",
     },
-    Row {
+    Case {
         words: &[b"preconv", b"quoted"],
         output: b"\\'a \\*(lqb\\*[rq] \\*R\n.tr \\(is'\n\\(aqc\\(aq \\`d \\(dqe\n",
         status: 0,
         line: b"",
     },
-    Row {
+    Case {
         words: &[b"preconv", b"-u"],
         output: b"",
         status: 2,
         line: b"preconv: no table is named\n",
     },
-    Row {
+    Case {
         words: &[b"preconv", b"-8", b"-u", b"Latin"],
         output: b"",
         status: 2,
         line: b"preconv: unknown table Latin\n",
     },
     // Standard input stands where it is named, and ends once.
-    Row {
+    Case {
         words: &[b"preconv", b"quotes", b"-", b"latin", b"-"],
         output: b"\\(dqa\\(dq \\(em \\fIb\\fP\ncafe\nnaive e\n",
         status: 0,
         line: b"",
     },
     // Fields of a table that are these signs are no rules.
-    Row {
+    Case {
         words: &[b"preconv", b"signs"],
         output: b"\\&_\t\\&=\n",
         status: 0,
         line: b"",
     },
     // A word is cut after a letter alone, and what names a font is left.
-    Row {
+    Case {
         words: &[b"preconv", b"names"],
         output: b".TH x\n(a b\\%c \\%d \\f\\*[B]e\n",
         status: 0,
         line: b"",
     },
     // A letter with marks is what they compose to, where the table has it, and else the letter.
-    Row {
+    Case {
         words: &[b"preconv", b"-u", b"english", b"accents"],
         output: b"\xe9 \xe9 <alpha> <alpha> q\n",
         status: 0,
         line: b"",
     },
     // A text line that begins with `\.` is a control line, but in a definition.
-    Row {
+    Case {
         words: &[b"preconv", b"dots"],
         output: b".B a\nb \\.B\n.de c\n\\.B\n..\n",
         status: 0,
         line: b"",
     },
     // In a manual page an empty line after the tag of a paragraph is a request, but in a table.
-    Row {
+    Case {
         words: &[b"preconv", b"tags"],
         output: b".IP a\n\n.TH x\n.IP a\n.sp\nb\n.IP\ne\n.TS\n.IP\n\n.TE\n.IP \\(bu\n\\&c\n.TP\n.\\\"\nd\n.sp\ne\n\n",
         status: 0,
         line: b"",
     },
     // Blanks after a font or a quote, with which a line begins, are printed.
-    Row {
+    Case {
         words: &[b"preconv", b"blanks"],
         output: b"\\fB\\& \\fIa b\n.RB \"\\& a\" \" b\"\n\\fBa b\n.TS\n\\fB a\n.TE\n",
         status: 0,
         line: b"",
     },
     // A row of a table that begins with `\.` is no control line.
-    Row {
+    Case {
         words: &[b"preconv", b"rows"],
         output: b".TH x\n.TS\nl.\n\\.a\n.TE\n.B a\n",
         status: 0,
         line: b"",
     },
     // Hyphens of rows are those of text; in a format they are left.
-    Row {
+    Case {
         words: &[b"preconv", b"fields"],
         output: b".TH x\n.TS\nl-l.\n\\-\\-a\tb-c\n.T&\nl -.\nT{\n[\\-d]\nT}\n\\-2\t\\-\n.TE\n\\-e\n",
         status: 0,
         line: b"",
     },
     // One may separate fields.
-    Row {
+    Case {
         words: &[b"preconv", b"separated"],
         output: b".TH x\n.TS\ntab(-);\nl l.\na-1\n.T&\nl l.\n-b\n.TE\n\\-c\n",
         status: 0,
         line: b"",
     },
     // A backslash is the name of no font, but where an escape gives the name.
-    Row {
+    Case {
         words: &[b"preconv", b"backslashes"],
         output: b"\\fRfirejail \\fBb\\fBfIc\\fP \\f\\*[B]d\n\\fIa\\fIe\n",
         status: 0,
         line: b"",
     },
     // No line is broken after a hyphen of a tag or an address, nor after an en dash.
-    Row {
+    Case {
         words: &[b"preconv", b"whole"],
         output: b".TH x\n.TP\na\\-b \\-c\nd-e\n.IP [\\-\\-a\\-b] -4\n.UR a\\-b\n.UE c-d\n.B \"\\-a\\\\-b\"\na\\-\\-b\n",
         status: 0,
         line: b"",
     },
     // Text that begins with a blank stands below its tag.
-    Row {
+    Case {
         words: &[b"preconv", b"begun"],
         output: b".TH x\n.TP\na\n.br\n b\n.IP a\n.br\n  b\n c\n",
         status: 0,
         line: b"",
     },
     // A word may be cut where the page says so.
-    Row {
+    Case {
         words: &[b"preconv", b"points"],
         output: b"a\\(zbb\\(zbc\n.UR d/\\(zbe\n\\(zb.f\n",
         status: 0,
         line: b"",
     },
     // Of characters over one another the last is shown.
-    Row {
+    Case {
         words: &[b"preconv", b"over"],
         output: b"aeb\\(bud\n",
         status: 0,
         line: b"",
     },
     // Bytes are translated where they are printed. Carriage returns are dropped.
-    Row {
+    Case {
         words: &[b"preconv", b"translated"],
         output: b".tr %.Q\"~\n\\&.a \\(dq\\ \n.B \\&.b \\&.\\%\n.tr QQ\nQ <Omega>\n.tr \\(*W-%%\n% \\-\n.PP\n.ds %\n",
         status: 0,
         line: b"",
     },
     // A sentence that ends in a bracket or a quote, but before a line that breaks, and in no definition or table.
-    Row {
+    Case {
         words: &[b"preconv", b"sentences"],
         output: b"(a.)\nb\n.TH x\n(a.)\\*(.\\n(.u\nb.\n\"c?\"\\*(.\\n(.u\n.B d\n[e!]\n f\n(g.)\n\n.de h\n(i.)\n..\n.TS\nl.\n(j.)\nk\n.TE\n(l.)\\*(.\\n(.u\ne (m.)\n",
         status: 0,
         line: b"",
     },
     // A name that is no font keeps the font, and counts as a change.
-    Row {
+    Case {
         words: &[b"preconv", b"faces"],
         output: b".TH x\n\\fBa\\fBb\\fBc\\fPd\\fR\\fRe\n\\fIf\\fP\n.ft R\ng\n.ft P\n.B a \\fBb\\fP\n.BR a \\fRb\n.ft B\n\\fBh\n.PP\n\\fR\\fI\\fRi\\fB\\fI\\fBj\n.ft\n.ft \\*x\n",
         status: 0,
         line: b"",
     },
     // Text is read under its coding.
-    Row {
+    Case {
         words: &[b"preconv", b"little", b"big", b"marked"],
         output: b"ae<U+10348>\na<U+FFFD>b<U+FFFD>c<U+FFFD>\n.de x\n..\n",
         status: 0,
         line: b"",
     },
-    Row {
+    Case {
         words: &[b"preconv", b"-8", b"named", b"unnamed"],
         output: b".\\\" coding: Latin-1 -*-\na\xc3\xa9\na\nb\ncoding: latin-1\n\xe9\n",
         status: 0,
         line: b"",
     },
-    Row {
+    Case {
         words: &[b"preconv", b"-u", b"cyrillic", b"russian", b"czech"],
         output: b".\\\" -*- mode: nroff; coding: KOI8-R -*-\n\x9a\xcd\xde a\n.TH x\n.\\\" -*-coding:iso-8859-2-*-\nre \xbc\n",
         status: 0,
         line: b"",
     },
-    Row {
+    Case {
         words: &[b"preconv", b"-u", b"latin", b"money"],
         output: b".\\\" -*- coding: latin-0-dos; -*-\n\xd0\x96\xe9\n",
         status: 0,
         line: b"",
     },
     // A coding that is not known is reported.
-    Row {
+    Case {
         words: &[b"preconv", b"japanese", b"half"],
         output: b".TH x\n.\\\" -*- coding: EUC-JP-unix -*-\nae\n\\(l\n",
         status: 1,
         line: b"preconv: japanese:2: unknown coding euc-jp-unix\n",
     },
     // Each file is turned by itself, and ends with a newline.
-    Row {
+    Case {
         words: &[b"preconv", b"half", b"other", b"half"],
         output: b"\\(l\nq\n.tr x\n\\(l\n",
         status: 0,
         line: b"",
     },
     // What stands after a file is a file.
-    Row {
+    Case {
         words: &[b"preconv", b"latin", b"-8"],
         output: b"",
         status: 3,
         line: b"preconv: cannot open -8\n",
     },
-    Row {
+    Case {
         words: &[b"preconv", b"-", b"-x"],
         output: b"",
         status: 3,
         line: b"preconv: cannot open -x\n",
     },
     // The first that can't be opened is reported, before anything is read.
-    Row {
+    Case {
         words: &[b"preconv", b"folder", b"none", b"nor"],
         output: b"",
         status: 3,
         line: b"preconv: cannot open none\n",
     },
-    Row {
+    Case {
         words: &[b"preconv", b""],
         output: b"",
         status: 3,
         line: b"preconv: cannot open \n",
     },
     // The first word that is no option is reported, before anything is opened.
-    Row {
+    Case {
         words: &[b"preconv", b"-8", b"-88", b"-x", b"none"],
         output: b"",
         status: 2,
         line: b"preconv: unknown option -88\n",
     },
-    Row {
+    Case {
         words: &[b"preconv", b"--"],
         output: b"",
         status: 2,
         line: b"preconv: unknown option --\n",
     },
-    Row {
+    Case {
         words: &[b"preconv", b"folder", b"latin"],
         output: b"",
         status: 3,
         line: b"preconv: folder: read fault at byte 0\n",
     },
     // What came before the fault is out, but for what is half read; bytes are those of the file.
-    Row {
+    Case {
         words: &[b"preconv", b"latin", b"cut", b"latin"],
         output: b"naive e\na\\ b\n.BR c",
         status: 3,
         line: b"preconv: cut: read fault at byte 13\n",
     },
-    Row {
+    Case {
         words: &[b"preconv", b"-8", b"cut"],
         output: b"a\\ b\n.BR c",
         status: 3,
@@ -421,20 +421,20 @@ static OWN_TEXTS: [(&str, Page<'static>); 3] = [
 ];
 
 // The table of what a file prints: 11 bytes for frames, and then those of the file; a character of two columns is two.
-static OWN_ROWS: [Row; 3] = [
-    Row {
+static OWN_ROWS: [Case; 3] = [
+    Case {
         words: &[b"preconv", b"-u", b"own:scripts", b"scripts", b"-"],
         output: b"\x8b\\(zb\xfe\xff a\ncafe\n",
         status: 0,
         line: b"",
     },
-    Row {
+    Case {
         words: &[b"preconv", b"-u", b"own:none", b"missing"],
         output: b"",
         status: 3,
         line: b"preconv: cannot open none\n",
     },
-    Row {
+    Case {
         words: &[b"preconv", b"-u", b"own:cut", b"latin"],
         output: b"",
         status: 3,

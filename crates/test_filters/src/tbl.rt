@@ -5,7 +5,7 @@ use std::cell::Cell;
 use tbl_command::Tbl;
 
 /// A run: its words, what it writes, its status and its lines. Standard input is `a` and a line `.br`.
-struct Row {
+struct Case {
     words: &'static [&'static [u8]],
     output: &'static [u8],
     status: u8,
@@ -22,185 +22,185 @@ static TEXTS: [(&str, Page<'static>); 7] = [
     ("box", Page::Bytes(b".TS\nbox;\nl.\n\xe9\n.TE\n")),
 ];
 
-static ROWS: [Row; 29] = [
+static ROWS: [Case; 29] = [
     // The table of what a file prints has what frames are drawn with first.
-    Row {
+    Case {
         words: &[b"tbl", b"-u", b"own:scripts", b"box"],
         output: b".TS\n.br\n.nr *u \\n(.u\n.nr *I \\n(.i\n.nf\n.nr *box 1\n.if '\\n(.z'' .if 3v<\\n(.p .ne 3v\n.if !'\\n(.z'' \\{\\\n\\!.ne 3v\n.\\}\n\x82\x80\x80\x84\n\x81\xe9 \x81\n\x88\x80\x80\x8a\n.in \\n(*Iu\n.if \\n(*u .fi\n.TE\n",
         status: 0,
         lines: b"",
     },
-    Row {
+    Case {
         words: &[b"tbl", b"-u", b"own:none", b"missing"],
         output: b"",
         status: 3,
         lines: b"tbl: cannot open none\n",
     },
     // Frames have the characters of the table, and what it names is no file.
-    Row {
+    Case {
         words: &[b"tbl", b"-u", b"english", b"box"],
         output: b".TS\n.br\n.nr *u \\n(.u\n.nr *I \\n(.i\n.nf\n.nr *box 1\n.if '\\n(.z'' .if 3v<\\n(.p .ne 3v\n.if !'\\n(.z'' \\{\\\n\\!.ne 3v\n.\\}\n\xa4\x9c\x9c\xa6\n\x9d\xe9 \x9d\n\x9e\x9c\x9c\xa8\n.in \\n(*Iu\n.if \\n(*u .fi\n.TE\n",
         status: 0,
         lines: b"",
     },
     // In a table without boxes they have those of ASCII; the last word counts.
-    Row {
+    Case {
         words: &[b"tbl", b"-u", b"english", b"-l65", b"-u", b"latin", b"box"],
         output: b".TS\n.br\n.nr *u \\n(.u\n.nr *I \\n(.i\n.nf\n.nr *box 1\n.if '\\n(.z'' .if 3v<\\n(.p .ne 3v\n.if !'\\n(.z'' \\{\\\n\\!.ne 3v\n.\\}\n+--+\n|\xe9 |\n+--+\n.in \\n(*Iu\n.if \\n(*u .fi\n.TE\n",
         status: 0,
         lines: b"",
     },
-    Row {
+    Case {
         words: &[b"tbl", b"-u"],
         output: b"",
         status: 2,
         lines: b"tbl: no table is named\n",
     },
-    Row {
+    Case {
         words: &[b"tbl", b"-l65", b"-u", b"-l65", b"plain"],
         output: b"",
         status: 2,
         lines: b"tbl: unknown table -l65\n",
     },
-    Row {
+    Case {
         words: &[b"tbl", b"-u", b"Latin"],
         output: b"",
         status: 2,
         lines: b"tbl: unknown table Latin\n",
     },
-    Row {
+    Case {
         words: &[b"tbl"],
         output: b"a\n.br\n",
         status: 0,
         lines: b"",
     },
-    Row {
+    Case {
         words: &[b"tbl", b"-Lt1", b"-Lr64"],
         output: b"a\n.br\n",
         status: 0,
         lines: b"",
     },
-    Row {
+    Case {
         words: &[b"tbl", b"-Lr1048576", b"-Lr100", b"-Lt00020", b"plain"],
         output: b"T{ _\n.TSX\n\xc3\xa9\\fIb\\fP\n",
         status: 0,
         lines: b"",
     },
     // Standard input stands where it is named, and ends once.
-    Row {
+    Case {
         words: &[b"tbl", b"plain", b"-", b"empty", b"-"],
         output: b"T{ _\n.TSX\n\xc3\xa9\\fIb\\fP\na\n.br\n",
         status: 0,
         lines: b"",
     },
     // Each file is turned by itself.
-    Row {
+    Case {
         words: &[b"tbl", b"open", b"open"],
         output: b".ds x y.ds x y",
         status: 0,
         lines: b"",
     },
     // What stands after a file is a file.
-    Row {
+    Case {
         words: &[b"tbl", b"plain", b"-Lt9"],
         output: b"",
         status: 3,
         lines: b"tbl: cannot open -Lt9\n",
     },
-    Row {
+    Case {
         words: &[b"tbl", b"-", b"-x"],
         output: b"",
         status: 3,
         lines: b"tbl: cannot open -x\n",
     },
     // The first that can't be opened is reported, before anything is read.
-    Row {
+    Case {
         words: &[b"tbl", b"folder", b"none", b"nor"],
         output: b"",
         status: 3,
         lines: b"tbl: cannot open none\n",
     },
-    Row {
+    Case {
         words: &[b"tbl", b""],
         output: b"",
         status: 3,
         lines: b"tbl: cannot open \n",
     },
     // The first word that can't be taken is reported, before anything is opened.
-    Row {
+    Case {
         words: &[b"tbl", b"-Lt9", b"-C", b"-Lt0", b"none"],
         output: b"",
         status: 2,
         lines: b"tbl: unknown option -C\n",
     },
-    Row {
+    Case {
         words: &[b"tbl", b"--"],
         output: b"",
         status: 2,
         lines: b"tbl: unknown option --\n",
     },
-    Row {
+    Case {
         words: &[b"tbl", b"-L"],
         output: b"",
         status: 2,
         lines: b"tbl: bad value in -L\n",
     },
-    Row {
+    Case {
         words: &[b"tbl", b"-Lx9"],
         output: b"",
         status: 2,
         lines: b"tbl: bad value in -Lx9\n",
     },
-    Row {
+    Case {
         words: &[b"tbl", b"-Lt0"],
         output: b"",
         status: 2,
         lines: b"tbl: bad value in -Lt0\n",
     },
-    Row {
+    Case {
         words: &[b"tbl", b"-Lr63", b"none"],
         output: b"",
         status: 2,
         lines: b"tbl: bad value in -Lr63\n",
     },
-    Row {
+    Case {
         words: &[b"tbl", b"-Lt1048577"],
         output: b"",
         status: 2,
         lines: b"tbl: bad value in -Lt1048577\n",
     },
-    Row {
+    Case {
         words: &[b"tbl", b"-l0"],
         output: b"",
         status: 2,
         lines: b"tbl: bad value in -l0\n",
     },
-    Row {
+    Case {
         words: &[b"tbl", b"-l"],
         output: b"",
         status: 2,
         lines: b"tbl: bad value in -l\n",
     },
-    Row {
+    Case {
         words: &[b"tbl", b"-Lr+64"],
         output: b"",
         status: 2,
         lines: b"tbl: bad value in -Lr+64\n",
     },
-    Row {
+    Case {
         words: &[b"tbl", b"-Lr64x"],
         output: b"",
         status: 2,
         lines: b"tbl: bad value in -Lr64x\n",
     },
-    Row {
+    Case {
         words: &[b"tbl", b"folder", b"plain"],
         output: b"",
         status: 3,
         lines: b"tbl: read fault at byte 0\n",
     },
     // What came before the fault is out; bytes are those of the file.
-    Row {
+    Case {
         words: &[b"tbl", b"open", b"cut", b"plain"],
         output: b".ds x ya\n.BR c d",
         status: 3,

@@ -5,7 +5,7 @@ use std::cell::Cell;
 use utf8_command::Utf8;
 
 /// A run: its words, what it writes, its status and its line. Standard input is `caf`, a byte of the table and `_`.
-struct Row {
+struct Case {
     words: &'static [&'static [u8]],
     output: &'static [u8],
     status: u8,
@@ -43,261 +43,261 @@ static TEXTS: [(&str, Page<'static>); 19] = [
     ("boxed", Page::Bytes(b".TS\nbox;\nl.\n\xc4\x99\n.TE\n")),
 ];
 
-static ROWS: [Row; 41] = [
-    Row {
+static ROWS: [Case; 41] = [
+    Case {
         words: &[b"utf8", b"latin"],
         output: b"caf\xc3\xa9_",
         status: 0,
         line: b"",
     },
-    Row {
+    Case {
         words: &[b"utf8", b"cyrillic", b"-"],
         output: b"caf\xd2\x90_",
         status: 0,
         line: b"",
     },
-    Row {
+    Case {
         words: &[b"utf8", b"latin", b"underlined"],
         output: b"_\x08a_\x08b c__\x08_\n_",
         status: 0,
         line: b"",
     },
-    Row {
+    Case {
         words: &[b"utf8", b"-c", b"latin", b"underlined"],
         output: b"\x1b[4mab\x1b[24m c_\x1b[1m_\x1b[22m\n_",
         status: 0,
         line: b"",
     },
     // `_` over itself goes on what is underlined, and else is bold.
-    Row {
+    Case {
         words: &[b"utf8", b"latin", b"bold"],
         output: b"_\x08_e\x08e\xc3\xa9\x08\xc3\xa9(_\x08\xc3\xa9_\x08_\n-\x08--\x08-",
         status: 0,
         line: b"",
     },
-    Row {
+    Case {
         words: &[b"utf8", b"-c", b"latin", b"bold"],
         output: b"\x1b[1m_e\xc3\xa9\x1b[22m(\x1b[4m\xc3\xa9_\x1b[24m\n\x1b[1m--\x1b[22m",
         status: 0,
         line: b"",
     },
     // A backspace strikes no other byte, and no blank; a third byte is a cell of its own.
-    Row {
+    Case {
         words: &[b"utf8", b"latin", b"apart"],
         output: b"ab  _ x\x08xx\n",
         status: 0,
         line: b"utf8: 4 bytes dropped that show nothing\n",
     },
-    Row {
+    Case {
         words: &[b"utf8", b"-c", b"latin", b"apart"],
         output: b"ab  _ \x1b[1mx\x1b[22mx\n",
         status: 0,
         line: b"utf8: 4 bytes dropped that show nothing\n",
     },
     // No control character goes out but newline.
-    Row {
+    Case {
         words: &[b"utf8", b"latin", b"hostile"],
         output: b"[1m_\x08-\n\xe2\x80\x9c",
         status: 0,
         line: b"utf8: 5 bytes dropped that show nothing\n",
     },
     // What is half read at the end of a file is no part of the next.
-    Row {
+    Case {
         words: &[b"utf8", b"latin", b"half", b"half"],
         output: b"a_a_",
         status: 0,
         line: b"utf8: 2 bytes dropped that show nothing\n",
     },
-    Row {
+    Case {
         words: &[b"utf8"],
         output: b"",
         status: 2,
         line: b"utf8: no table is named\n",
     },
-    Row {
+    Case {
         words: &[b"utf8", b"-c"],
         output: b"",
         status: 2,
         line: b"utf8: no table is named\n",
     },
-    Row {
+    Case {
         words: &[b"utf8", b"Latin"],
         output: b"",
         status: 2,
         line: b"utf8: unknown table Latin\n",
     },
-    Row {
+    Case {
         words: &[b"utf8", b"-x", b"latin"],
         output: b"",
         status: 2,
         line: b"utf8: unknown option -x\n",
     },
-    Row {
+    Case {
         words: &[b"utf8", b"-c", b"-c", b"latin"],
         output: b"",
         status: 2,
         line: b"utf8: unknown option -c\n",
     },
-    Row {
+    Case {
         words: &[b"utf8", b"latin", b"none"],
         output: b"",
         status: 3,
         line: b"utf8: cannot open none\n",
     },
-    Row {
+    Case {
         words: &[b"utf8", b"--choose", b"russian"],
         output: b"own:russian\n",
         status: 0,
         line: b"",
     },
-    Row {
+    Case {
         words: &[b"utf8", b"--choose", b"greek"],
         output: b"greek\n",
         status: 0,
         line: b"",
     },
     // A page is read under its coding.
-    Row {
+    Case {
         words: &[b"utf8", b"--choose", b"named"],
         output: b"greek\n",
         status: 0,
         line: b"",
     },
-    Row {
+    Case {
         words: &[b"utf8", b"--choose", b"polish"],
         output: b"latin\n",
         status: 0,
         line: b"",
     },
     // Names count where only some tables have what they name.
-    Row {
+    Case {
         words: &[b"utf8", b"--choose", b"letters"],
         output: b"latin\n",
         status: 0,
         line: b"",
     },
-    Row {
+    Case {
         words: &[b"utf8", b"--choose", b"accents"],
         output: b"english\n",
         status: 0,
         line: b"",
     },
-    Row {
+    Case {
         words: &[b"utf8", b"--choose", b"ordinals"],
         output: b"latin\n",
         status: 0,
         line: b"",
     },
     // Of two that have as many, the one that draws boxes.
-    Row {
+    Case {
         words: &[b"utf8", b"--choose", b"arrow"],
         output: b"english\n",
         status: 0,
         line: b"",
     },
     // Where no table has a character, and from standard input where no file is named.
-    Row {
+    Case {
         words: &[b"utf8", b"--choose", b"plain"],
         output: b"english\n",
         status: 0,
         line: b"",
     },
-    Row {
+    Case {
         words: &[b"utf8", b"--choose"],
         output: b"english\n",
         status: 0,
         line: b"",
     },
-    Row {
+    Case {
         words: &[b"utf8", b"--choose", b"plain", b"greek"],
         output: b"",
         status: 2,
         line: b"utf8: --choose takes one file\n",
     },
-    Row {
+    Case {
         words: &[b"utf8", b"--choose", b"cut"],
         output: b"",
         status: 3,
         line: b"utf8: cannot read cut\n",
     },
-    Row {
+    Case {
         words: &[b"utf8", b"--choose", b"none"],
         output: b"",
         status: 3,
         line: b"utf8: cannot open none\n",
     },
-    Row {
+    Case {
         words: &[b"utf8", b"--version"],
         output: b"utf8 0.2.0\n",
         status: 0,
         line: b"",
     },
-    Row {
+    Case {
         words: &[b"utf8", b"latin", b"--choose"],
         output: b"",
         status: 3,
         line: b"utf8: cannot open --choose\n",
     },
     // What was half read does not go out where the file fails.
-    Row {
+    Case {
         words: &[b"utf8", b"latin", b"cut"],
         output: b"ab",
         status: 3,
         line: b"utf8: cut: read fault at byte 4\n",
     },
-    Row {
+    Case {
         words: &[b"utf8", b"-c", b"latin", b"struck"],
         output: b"\x1b[1m_",
         status: 3,
         line: b"utf8: struck: read fault at byte 5\n",
     },
-    Row {
+    Case {
         words: &[b"utf8", b"own:scripts", b"cut"],
         output: b"ab",
         status: 3,
         line: b"utf8: cut: read fault at byte 4\n",
     },
     // The table of what a file prints: after what frames are drawn with comes what is in the file.
-    Row {
+    Case {
         words: &[b"utf8", b"own:scripts", b"coded"],
         output: b"\xc5\x98_\x08\xe5\x90\x8d \xe2\x94\x82\xe5\x90\x8d\xe2\x94\x82\n",
         status: 0,
         line: b"",
     },
-    Row {
+    Case {
         words: &[b"utf8", b"-c", b"own:scripts", b"coded"],
         output: b"\xc5\x98\x1b[4m\xe5\x90\x8d\x1b[24m \xe2\x94\x82\xe5\x90\x8d\xe2\x94\x82\n",
         status: 0,
         line: b"",
     },
     // It is opened before the others, and reported by its name.
-    Row {
+    Case {
         words: &[b"utf8", b"own:none", b"missing"],
         output: b"",
         status: 3,
         line: b"utf8: cannot open none\n",
     },
-    Row {
+    Case {
         words: &[b"utf8", b"own:cut", b"coded"],
         output: b"",
         status: 3,
         line: b"utf8: cannot read cut\n",
     },
-    Row {
+    Case {
         words: &[b"utf8", b"--choose", b"scripts"],
         output: b"own:scripts\n",
         status: 0,
         line: b"",
     },
     // A page with a table needs what frames are drawn with, which the table of Latin letters lacks.
-    Row {
+    Case {
         words: &[b"utf8", b"--choose", b"boxed"],
         output: b"own:boxed\n",
         status: 0,
         line: b"",
     },
-    // Of standard input the name of a fixed table is told.
-    Row {
+    // Of standard input the name of a fixed table is reported.
+    Case {
         words: &[b"utf8", b"--choose", b"-"],
         output: b"english\n",
         status: 0,

@@ -3,12 +3,12 @@ use nr_command_options::{read_words, usage_line};
 use nr_units::fakes::Slate;
 
 /// A bad word, and the line that reports it.
-type Row = (&'static str, &'static [u8]);
+type Case = (&'static str, &'static [u8]);
 
 // Each table is behind a function of its own, so that a proof goes over the rows of one only.
 
 /// Bad page lists and page numbers.
-fn numbers() -> &'static [Row] {
+fn numbers() -> &'static [Case] {
     &[
         ("-o3-1", b"nroff: bad value in -o3-1\n"),
         ("-o", b"nroff: bad value in -o\n"),
@@ -27,7 +27,7 @@ fn numbers() -> &'static [Row] {
 }
 
 /// Bad registers.
-fn registers() -> &'static [Row] {
+fn registers() -> &'static [Case] {
     &[
         ("-r", b"nroff: bad value in -r\n"),
         ("-ra", b"nroff: bad value in -ra\n"),
@@ -45,7 +45,7 @@ fn registers() -> &'static [Row] {
 }
 
 /// Bad limits, and options that take no value or need one.
-fn limits() -> &'static [Row] {
+fn limits() -> &'static [Case] {
     &[
         ("-Ls63", b"nroff: bad value in -Ls63\n"),
         ("-Ls16777217", b"nroff: bad value in -Ls16777217\n"),
@@ -64,7 +64,7 @@ fn limits() -> &'static [Row] {
 }
 
 /// Options that are not in the profile or not known.
-fn letters() -> &'static [Row] {
+fn letters() -> &'static [Case] {
     &[
         ("-Tascii", b"nroff: option -T is not in this profile\n"),
         ("-s", b"nroff: option -s is not in this profile\n"),
@@ -112,7 +112,7 @@ fn tells(words: &[&str], line: &[u8]) -> bool {
 }
 
 /// The first of these words that its line does not report.
-fn first_untold(rows: &[Row]) -> Option<&'static str> {
+fn first_untold(rows: &[Case]) -> Option<&'static str> {
     for (word, line) in rows {
         if !tells(&[*word], line) {
             return Some(*word);

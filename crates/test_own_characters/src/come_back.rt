@@ -4,7 +4,7 @@ use super::texts::back_of;
 
 /// A text, what is shown of it, how many clusters of one column beyond ASCII and of two it has, and how many bytes stand for it: one for
 /// each column, and for the places between where lines may be cut.
-struct Row {
+struct Case {
     text: &'static str,
     shown: &'static str,
     narrow: usize,
@@ -13,100 +13,100 @@ struct Row {
 }
 
 /// Headings and words of manual pages, composed and decomposed.
-fn rows() -> &'static [Row] {
+fn rows() -> &'static [Case] {
     &[
-        Row {
+        Case {
             text: "PŘEKLAD, PŘÍKLADY",
             shown: "PŘEKLAD, PŘÍKLADY",
             narrow: 2,
             wide: 0,
             bytes: 17,
         },
-        Row {
+        Case {
             text: "PR\u{30c}EKLAD",
             shown: "PŘEKLAD",
             narrow: 1,
             wide: 0,
             bytes: 7,
         },
-        Row {
+        Case {
             text: "名前 ls - 一覧",
             shown: "名\\(zb前 ls - 一\\(zb覧",
             narrow: 0,
             wide: 4,
             bytes: 22,
         },
-        Row {
+        Case {
             text: "か\u{3099}が",
             shown: "が\\(zbが",
             narrow: 0,
             wide: 1,
             bytes: 8,
         },
-        Row {
+        Case {
             text: "日本\n語、ls(1)は",
             shown: "日\\(zb本\\(zj\n語、\\(zbls(1)\\(zbは",
             narrow: 0,
             wide: 5,
             bytes: 32,
         },
-        Row {
+        Case {
             text: "「日」っ\n\n日\n",
             shown: "「日」っ\n\n日\n",
             narrow: 0,
             wide: 4,
             bytes: 13,
         },
-        Row {
+        Case {
             text: ".B 日本\n日\\fB本\\(bu日\\fR\n\\fB日",
             shown: ".B 日\\(zb本\n日\\fB\\(zb本\\(bu日\\fR\n\\fB日",
             narrow: 0,
             wide: 2,
             bytes: 38,
         },
-        Row {
+        Case {
             text: ".TS\nl.\n日本\n日 T{\n日\n本\nT}\n日\n.TE\n日\n本",
             shown: ".TS\nl.\n日\\(zb本\n日 T{\n日\\(zj\n本\nT}\n日\n.TE\n日\\(zj\n本",
             narrow: 0,
             wide: 2,
             bytes: 51,
         },
-        Row {
+        Case {
             text: "이름 설명\n이",
             shown: "이름 설명\n이",
             narrow: 0,
             wide: 4,
             bytes: 12,
         },
-        Row {
+        Case {
             text: "TÊN tệp",
             shown: "TÊN tệp",
             narrow: 2,
             wide: 0,
             bytes: 7,
         },
-        Row {
+        Case {
             text: "te\u{323}\u{302}p tệp",
             shown: "tệp tệp",
             narrow: 1,
             wide: 0,
             bytes: 7,
         },
-        Row {
+        Case {
             text: "x\u{301}\u{323}",
             shown: "x\u{301}\u{323}",
             narrow: 1,
             wide: 0,
             bytes: 1,
         },
-        Row {
+        Case {
             text: "\\fBe\u{301}",
             shown: "\\fBe",
             narrow: 0,
             wide: 0,
             bytes: 4,
         },
-        Row {
+        Case {
             text: "a\u{200b}b",
             shown: "ab",
             narrow: 0,

@@ -18,7 +18,7 @@ const MOST: usize = 4_096;
 
 /// What became of a text.
 #[derive(Drop)]
-pub struct Outcome {
+pub struct ComeBack {
     pub narrow: usize,
     pub wide: usize,
     /// How many had no room.
@@ -49,7 +49,7 @@ fn code(text: &[u8], table: &Table<'_>, coded: &mut Buffer) -> usize
 }
 
 /// What becomes of a text, of up to 512 different clusters.
-pub fn back_of(alloc: Global, text: &str) -> Result<Outcome, AllocError> {
+pub fn back_of(alloc: Global, text: &str) -> Result<ComeBack, AllocError> {
     let none = Cluster::single('\0');
     let blank = Count {
         cluster: none,
@@ -83,7 +83,7 @@ pub fn back_of(alloc: Global, text: &str) -> Result<Outcome, AllocError> {
     let mut sink = Shown::over(&mut shown, &table, false, &mut room);
     let _put = sink.put(coded.as_slice());
     let (_output, _ended) = sink.finish();
-    Ok(Outcome {
+    Ok(ComeBack {
         narrow: narrow.len(),
         wide: wide.len(),
         reported,

@@ -6,7 +6,7 @@ use std::alloc::Global;
 use std::cell::Cell;
 
 /// A run in a system: its words, standard input, what it prints, its status and its line.
-struct Row {
+struct Case {
     words: &'static [&'static [u8]],
     input: &'static [u8],
     output: &'static [u8],
@@ -43,8 +43,8 @@ static TEXTS: [(&str, Page<'static>); 13] = [
 ];
 
 /// What is formatted.
-static PRINTED: [Row; 20] = [
-    Row {
+static PRINTED: [Case; 20] = [
+    Case {
         words: &[b"nulbiko"],
         input: b".pl 2\n.ll 8\na bb ccc dddd\n",
         output: b"a bb ccc\ndddd\n",
@@ -52,7 +52,7 @@ static PRINTED: [Row; 20] = [
         line: b"",
     },
     // files in order, and standard input after them
-    Row {
+    Case {
         words: &[b"nulbiko", b"-i", b"one", b"-"],
         input: b".pl 1\n.br\nthree",
         output: b"one\ntwo\nthree\n",
@@ -60,7 +60,7 @@ static PRINTED: [Row; 20] = [
         line: b"",
     },
     // a page asks for its macros by itself
-    Row {
+    Case {
         words: &[b"nulbiko", b"-Tascii", b"-w", b"41", b"a.1"],
         input: b"",
         output: b"A(1)     General Commands Manual     A(1)\n\n\
@@ -70,7 +70,7 @@ here              today              A(1)\n",
         line: b"",
     },
     // tables, characters beyond ASCII and strings of the words
-    Row {
+    Case {
         words: &[b"nulbiko", b"-Tutf8", b"-dwd=word"],
         input: b".pl 1\n\\*(wd \xc3\xa9\n",
         output: b"word \xc3\xa9\n",
@@ -78,21 +78,21 @@ here              today              A(1)\n",
         line: b"",
     },
     // a page with a table of its own: characters of one column and of two, struck out, between sequences, and as other text
-    Row {
+    Case {
         words: &[b"nulbiko", b"-Tutf8"],
         input: b".pl 1\nP\xc5\x98EKLAD \xe5\x90\x8d\n",
         output: b"P\xc5\x98EKLAD \xe5\x90\x8d\n",
         status: 0,
         line: b"",
     },
-    Row {
+    Case {
         words: &[b"nulbiko", b"-Tutf8", b"--faces=on"],
         input: b".pl 1\n\\fBP\xc5\x98\\fP \\fI\xe5\x90\x8dx\\fP\n",
         output: b"\x1b[1mP\xc5\x98\x1b[22m \x1b[4m\xe5\x90\x8dx\x1b[24m\n",
         status: 0,
         line: b"",
     },
-    Row {
+    Case {
         words: &[b"nulbiko", b"-Tutf8", b"--faces=none"],
         input: b".pl 1\n\\fBP\xc5\x98\\fP \\fI\xe5\x90\x8dx\\fP\n",
         output: b"P\xc5\x98 \xe5\x90\x8dx\n",
@@ -100,7 +100,7 @@ here              today              A(1)\n",
         line: b"",
     },
     // a page of ASCII, which names letters that no fixed table has, by words, and with their marks
-    Row {
+    Case {
         words: &[b"nulbiko", b"-Tutf8"],
         input: b".pl 1\n\\(vs\\[*a] \\[e aa] \\[u0438_0306] \\[q a~].\n",
         output: b"\xc5\xa1\xce\xb1 \xc3\xa9 \xd0\xb9 q\xcc\x83.\n",
@@ -108,14 +108,14 @@ here              today              A(1)\n",
         line: b"",
     },
     // a coding that is named for the texts
-    Row {
+    Case {
         words: &[b"nulbiko", b"-Tutf8", b"-K", b"ISO-8859-1"],
         input: b".pl 1\nn\xe9e\n",
         output: b"n\xc3\xa9e\n",
         status: 0,
         line: b"",
     },
-    Row {
+    Case {
         words: &[
             b"nulbiko", b"-Tascii", b"-mline", b"-mpage", b"-Mlib", b"-rab=7",
         ],
@@ -124,7 +124,7 @@ here              today              A(1)\n",
         status: 0,
         line: b"",
     },
-    Row {
+    Case {
         words: &[b"nulbiko", b"-o2"],
         input: b".pl 1\na\n.bp\nb\n.bp\nc\n",
         output: b"b\n",
@@ -132,7 +132,7 @@ here              today              A(1)\n",
         line: b"",
     },
     // a page that needs no other program
-    Row {
+    Case {
         words: &[b"nulbiko", b"--alone"],
         input: b".pl 1\na\n",
         output: b"a\n",
@@ -140,21 +140,21 @@ here              today              A(1)\n",
         line: b"",
     },
     // bold text struck over, and as other text
-    Row {
+    Case {
         words: &[b"nulbiko", b"-Tascii", b"-b"],
         input: b".pl 1\n\\fBab\\fP \\fIc\\fP\n",
         output: b"a\x08ab\x08b _\x08c\n",
         status: 0,
         line: b"",
     },
-    Row {
+    Case {
         words: &[b"nulbiko", b"-Tascii", b"-b", b"--faces", b"none"],
         input: b".pl 1\n\\fBab\\fP \\fIc\\fP\n",
         output: b"ab c\n",
         status: 0,
         line: b"",
     },
-    Row {
+    Case {
         words: &[b"nulbiko", b"-Tutf8", b"--faces=none"],
         input: b".pl 1\n\\fIa\xc3\xa9\\fP\n",
         output: b"a\xc3\xa9\n",
@@ -162,7 +162,7 @@ here              today              A(1)\n",
         line: b"",
     },
     // a text that is only checked
-    Row {
+    Case {
         words: &[b"nulbiko", b"-z", b"one"],
         input: b"",
         output: b"",
@@ -170,14 +170,14 @@ here              today              A(1)\n",
         line: b"",
     },
     // texts of a folder that a page names, which name others; read as the page is
-    Row {
+    Case {
         words: &[b"nulbiko", b"--within", b"man"],
         input: b".pl 1\na\n.so man1/c.1\ne\n.so man1/b.1",
         output: b"a c b d e b\n",
         status: 0,
         line: b"",
     },
-    Row {
+    Case {
         words: &[b"nulbiko", b"--within=man/", b"--alone", b"-Tutf8"],
         input: b".pl 1\n.so man1/latin.1\n",
         output: b"n\xc3\xa9e\n",
@@ -185,14 +185,14 @@ here              today              A(1)\n",
         line: b"",
     },
     // no line of the text: behind what is no line's beginning, and with no name
-    Row {
+    Case {
         words: &[b"nulbiko", b"--within=man"],
         input: b".pl 1\na .so man1/b.1\n.so\n.sox man1/b.1\n",
         output: b"a .so man1/b.1\n",
         status: 0,
         line: b"",
     },
-    Row {
+    Case {
         words: &[b"nulbiko", b"--version"],
         input: b"",
         output: b"nulbiko 0.2.0\n",
@@ -202,16 +202,16 @@ here              today              A(1)\n",
 ];
 
 /// What is reported.
-static REPORTED: [Row; 25] = [
+static REPORTED: [Case; 25] = [
     // what is wrong in the texts, where words ask for it: of pages of mdoc, and of tables
-    Row {
+    Case {
         words: &[b"nulbiko", b"-z", b"--warnings", b"b.1", b"-"],
         input: b".Dd\n.Xx\n",
         output: b"",
         status: 0,
         line: b"nulbiko: -:2: unknown macro: Xx\n",
     },
-    Row {
+    Case {
         words: &[b"nulbiko", b"-z", b"-wmac"],
         input: b".TS\nl.\na\tb\n.TE\n",
         output: b"",
@@ -219,14 +219,14 @@ static REPORTED: [Row; 25] = [
         line: b"nulbiko: -:3: more fields than columns\n",
     },
     // of the lines of pages of man(7), and that they have no title where words name these macros
-    Row {
+    Case {
         words: &[b"nulbiko", b"-z", b"--warnings"],
         input: b".SH A\n.TH A 1\n.XX\n.xx\n\\*(xy \\q\n.RE\n.UE\n.ME\n.EE\n.RS\n.UR x\n",
         output: b"",
         status: 0,
         line: b"nulbiko: -:2: late title macro: TH\nnulbiko: -:3: unknown macro: XX\nnulbiko: -:4: unknown macro: xx\nnulbiko: -:5: unknown string: xy\nnulbiko: -:5: unknown escape: \\q\nnulbiko: -:6: end of block that is not open: RE\nnulbiko: -:7: end of block that is not open: UE\nnulbiko: -:8: end of block that is not open: ME\nnulbiko: -:9: end of block that is not open: EE\nnulbiko: -:11: missing end of block: UR\nnulbiko: -:10: missing end of block: RS\n",
     },
-    Row {
+    Case {
         words: &[b"nulbiko", b"-z", b"-man", b"--warnings"],
         input: b".ds xy a\n.SH A\n\\*(xy\n",
         output: b"",
@@ -234,14 +234,14 @@ static REPORTED: [Row; 25] = [
         line: b"nulbiko: -:2: missing title macro: TH\n",
     },
     // of each file by itself and once, of its macros before its tables, and of no macro file; then its pages go out
-    Row {
+    Case {
         words: &[b"nulbiko", b"-z", b"-wmac", b"-", b"b.1", b"-"],
         input: b".Dd\n.Xx\n.TS\nl.\na\tb\n.TE\n",
         output: b"",
         status: 0,
         line: b"nulbiko: -:2: unknown macro: Xx\nnulbiko: -:5: more fields than columns\n",
     },
-    Row {
+    Case {
         words: &[
             b"nulbiko",
             b"--warnings",
@@ -258,63 +258,63 @@ static REPORTED: [Row; 25] = [
         line: b"nulbiko: -:3: more fields than columns\n",
     },
     // of one that fails that it wasn't looked at
-    Row {
+    Case {
         words: &[b"nulbiko", b"-z", b"--warnings", b"man/man1/cut.1"],
         input: b"",
         output: b"",
         status: 3,
         line: b"nulbiko: man/man1/cut.1: not looked at\nnulbiko: man/man1/cut.1:1: read fault\n",
     },
-    Row {
+    Case {
         words: &[b"nulbiko", b"-z", b"b.1", b"-"],
         input: b".Dd\n.Xx\n",
         output: b"",
         status: 0,
         line: b"",
     },
-    Row {
+    Case {
         words: &[b"nulbiko", b"-c", b"-V", b"-y"],
         input: b".pl 1\na\n",
         output: b"",
         status: 2,
         line: b"nulbiko: option -V is not in this program\n",
     },
-    Row {
+    Case {
         words: &[b"nulbiko", b"-o3-1", b"nowhere"],
         input: b"",
         output: b"",
         status: 2,
         line: b"nulbiko: bad value in 3-1\n",
     },
-    Row {
+    Case {
         words: &[b"nulbiko", b"one", b"nowhere", b"nor"],
         input: b"",
         output: b"",
         status: 3,
         line: b"nulbiko: cannot open nowhere\n",
     },
-    Row {
+    Case {
         words: &[b"nulbiko", b"-Mno", b"-mline", b"one"],
         input: b"",
         output: b"",
         status: 3,
         line: b"nulbiko: cannot open no/tmac.line\n",
     },
-    Row {
+    Case {
         words: &[b"nulbiko", b"-mx", b"one"],
         input: b"",
         output: b"",
         status: 3,
         line: b"nulbiko: no macros of the name x\n",
     },
-    Row {
+    Case {
         words: &[b"nulbiko", b"-Lp4"],
         input: b".pl 1\na\n.br\nb\n.br\nhello\n",
         output: b"a\n",
         status: 1,
         line: b"nulbiko: -:6: line cells limit passed\n",
     },
-    Row {
+    Case {
         words: &[b"nulbiko", b"-Ls64"],
         input: b".ds xx aaaaaaaaaaaaaaaaaaaaaaaaaaaaaaaaaaaaaaaaaaaaaaaaaaaaaaaaaaaaaaaaaaaaa\n",
         output: b"",
@@ -322,7 +322,7 @@ static REPORTED: [Row; 25] = [
         line: b"nulbiko: -:1: stored bytes limit passed\n",
     },
     // a page of 128 characters of one column, and 10 others
-    Row {
+    Case {
         words: &[b"nulbiko", b"-Tutf8", b"-o2"],
         input: b"\xc4\x80\xc4\x81\xc4\x82\xc4\x83\xc4\x84\xc4\x85\xc4\x86\xc4\x87\xc4\x88\xc4\x89\xc4\x8a\xc4\x8b\
 \xc4\x8c\xc4\x8d\xc4\x8e\xc4\x8f\xc4\x90\xc4\x91\xc4\x92\xc4\x93\xc4\x94\xc4\x95\xc4\x96\xc4\x97\
@@ -341,7 +341,7 @@ static REPORTED: [Row; 25] = [
         line: b"nulbiko: -: characters not shown: U+0071+U+0303 U+540D U+03B1 U+03B2 U+03B3 U+03B4 U+03B5 U+03B6 and 2 more\n",
     },
     // a page that names another
-    Row {
+    Case {
         words: &[b"nulbiko", b"--alone"],
         input: b".pl 1\na\n.so man1/b.1\n",
         output: b"",
@@ -349,56 +349,56 @@ static REPORTED: [Row; 25] = [
         line: b"",
     },
     // texts that are left out
-    Row {
+    Case {
         words: &[b"nulbiko", b"--within=man"],
         input: b".pl 1\na\n.so man1/no.1\nb\n.so man1/../../one\n",
         output: b"a b\n",
         status: 3,
         line: b"nulbiko: -:3: the text that .so names is not in the folder\n",
     },
-    Row {
+    Case {
         words: &[b"nulbiko", b"--within=man"],
         input: b".pl 1\na\n.so man1/../../one\nb\n",
         output: b"a b\n",
         status: 3,
         line: b"nulbiko: -:3: the text that .so names is out of the folder\n",
     },
-    Row {
+    Case {
         words: &[b"nulbiko", b"--within=man"],
         input: b".pl 1\n.so man1/b.1\n.so man1/out.1\n.so one\n.so /one\n",
         output: b"b\n",
         status: 3,
         line: b"nulbiko: -:3: the text that .so names is out of the folder\n",
     },
-    Row {
+    Case {
         words: &[b"nulbiko", b"--within=man"],
         input: b".pl 1\n.so man1/round.1\na\n",
         output: b"a\n",
         status: 3,
         line: b"nulbiko: -:2: the text that .so names is one too many\n",
     },
-    Row {
+    Case {
         words: &[b"nulbiko", b"--within=man"],
         input: b".pl 1\na\n.so man1/cut.1\n",
         output: b"a\n",
         status: 3,
         line: b"nulbiko: -:3: the text that .so names can't be read\n",
     },
-    Row {
+    Case {
         words: &[b"nulbiko", b"--within=nowhere"],
         input: b".pl 1\na\n",
         output: b"",
         status: 3,
         line: b"nulbiko: no folder nowhere\n",
     },
-    Row {
+    Case {
         words: &[b"nulbiko", b"-Kmorse", b"one"],
         input: b"",
         output: b"",
         status: 2,
         line: b"nulbiko: bad value in morse\n",
     },
-    Row {
+    Case {
         words: &[b"nulbiko", b"-K"],
         input: b"",
         output: b"",
@@ -408,7 +408,7 @@ static REPORTED: [Row; 25] = [
 ];
 
 /// The first words of a run that comes to something else.
-fn first_other(rows: &'static [Row], alloc: Global) -> Option<&'static [&'static [u8]]> {
+fn first_other(rows: &'static [Case], alloc: Global) -> Option<&'static [&'static [u8]]> {
     for row in rows {
         if !meets(alloc, row) {
             return Some(row.words);
@@ -418,7 +418,7 @@ fn first_other(rows: &'static [Row], alloc: Global) -> Option<&'static [&'static
 }
 
 /// Whether a run comes to what its row says.
-fn meets(alloc: Global, row: &Row) -> bool {
+fn meets(alloc: Global, row: &Case) -> bool {
     let mut output = Vec::new(alloc);
     let mut line = Vec::new(alloc);
     let status = run_row(alloc, row, &mut output, &mut line);
@@ -426,7 +426,7 @@ fn meets(alloc: Global, row: &Row) -> bool {
 }
 
 /// Its status.
-fn run_row(alloc: Global, row: &Row, output: &mut Vec<u8>, line: &mut Vec<u8>) -> u8 {
+fn run_row(alloc: Global, row: &Case, output: &mut Vec<u8>, line: &mut Vec<u8>) -> u8 {
     let system = System {
         words: row.words,
         texts: &TEXTS,

@@ -3,12 +3,12 @@ use nr_units::fakes::Slate;
 use program_options::{read_words, usage_line};
 
 /// Words of which the first bad one is reported, and the line that does.
-type Row = (&'static [&'static str], &'static [u8]);
+type Case = (&'static [&'static str], &'static [u8]);
 
 // Each table is behind a function of its own, so that a proof goes over the rows of one only.
 
 /// Options that are not there.
-fn options() -> &'static [Row] {
+fn options() -> &'static [Case] {
     &[
         (&["-V"], b"nulbiko: option -V is not in this program\n"),
         (
@@ -30,7 +30,7 @@ fn options() -> &'static [Row] {
 }
 
 /// Values that are not good.
-fn values() -> &'static [Row] {
+fn values() -> &'static [Case] {
     &[
         (&["-Tps"], b"nulbiko: bad value in -Tps\n"),
         (&["-T", "pdf"], b"nulbiko: bad value in pdf\n"),
@@ -55,7 +55,7 @@ fn values() -> &'static [Row] {
 }
 
 /// Options after which nothing stands.
-fn endings() -> &'static [Row] {
+fn endings() -> &'static [Case] {
     &[
         (&["-T"], b"nulbiko: no value after -T\n"),
         (&["-man", "-K"], b"nulbiko: no value after -K\n"),
@@ -74,7 +74,7 @@ fn tells(words: &[&str], line: &[u8]) -> bool {
 }
 
 /// The first of these lines that is not reported.
-fn first_untold(rows: &[Row]) -> Option<&'static [u8]> {
+fn first_untold(rows: &[Case]) -> Option<&'static [u8]> {
     for (words, line) in rows {
         if !tells(words, line) {
             return Some(*line);

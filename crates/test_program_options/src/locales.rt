@@ -2,9 +2,9 @@
 use program_options::{Device, device_of_locale};
 
 /// The values of LC_ALL, LC_CTYPE and LANG, and what they say.
-type Row = ([&'static str; 3], Device);
+type Case = ([&'static str; 3], Device);
 
-static ROWS: [Row; 9] = [
+static ROWS: [Case; 9] = [
     (["", "", ""], Device::Ascii),
     (["", "", "C"], Device::Ascii),
     (["", "", "C.UTF-8"], Device::Utf8),

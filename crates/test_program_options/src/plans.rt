@@ -4,10 +4,10 @@ use program_plan::{cells_of, is_manual, macros_of, put_prefix};
 use std::alloc::Global;
 
 /// A text, and whether it asks for the macros of manual pages.
-type Row = (&'static [u8], bool);
+type Case = (&'static [u8], bool);
 
 /// Texts of pages, and of papers.
-fn texts() -> &'static [Row] {
+fn texts() -> &'static [Case] {
     &[
         (b"", false),
         (b".TH", true),

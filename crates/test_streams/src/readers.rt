@@ -1,7 +1,7 @@
 // How often readers are called, which of their answers are faults, and that no byte is lost at one.
 ghost use Rattle.std.specs.Prelude.{◌≤◌};
 
-use crate::turns::{TEXT, Turn, Uneven};
+use crate::turns::{Answer, TEXT, Uneven};
 use nr_units::buffered::Buffered;
 use nr_units::fakes::Script;
 use nr_units::over_std::{FromReader, RETRIES};
@@ -34,7 +34,7 @@ fn gives_text<S: Source>(source: &mut S, faults: usize) -> bool {
 
 /// Whether the text and then its end come by way of this room.
 fn ends_after_text(room: &mut [u8]) -> bool {
-    let turns = [Turn::AtMost(2), Turn::AtMost(1), Turn::AtMost(3)];
+    let turns = [Answer::AtMost(2), Answer::AtMost(1), Answer::AtMost(3)];
     let mut reader = Uneven::new(TEXT, &turns);
     let mut source = Buffered::over(&mut reader, room);
     gives_text(&mut source, 0) && source.next() == Ok(None)
@@ -49,7 +49,7 @@ fn a_buffer_of_any_length_gives_the_same(rt: HostRuntime) {
 }
 
 /// What the first call for a byte answers, how many failed then, and how often the reader was called.
-fn first_answer(turns: &[Turn]) -> (Result<Option<u8>, Fault>, u64, usize) {
+fn first_answer(turns: &[Answer]) -> (Result<Option<u8>, Fault>, u64, usize) {
     let mut reader = Uneven::new(TEXT, turns);
     let mut source = FromReader::over(&mut reader);
     let answer = source.next();
@@ -58,7 +58,7 @@ fn first_answer(turns: &[Turn]) -> (Result<Option<u8>, Fault>, u64, usize) {
 }
 
 /// What the first two calls for a byte answer, and how many failed then.
-fn two_answers(turns: &[Turn]) -> (Result<Option<u8>, Fault>, Result<Option<u8>, Fault>, u64) {
+fn two_answers(turns: &[Answer]) -> (Result<Option<u8>, Fault>, Result<Option<u8>, Fault>, u64) {
     let mut source = FromReader::over(Uneven::new(TEXT, turns));
     let first = source.next();
     let second = source.next();
@@ -67,13 +67,13 @@ fn two_answers(turns: &[Turn]) -> (Result<Option<u8>, Fault>, Result<Option<u8>,
 
 #[test]
 fn an_interrupted_read_is_tried_again(rt: HostRuntime) {
-    assert!(rt; first_answer(&[Turn::Interrupted; 64]) == (Ok(Some(b'.')), 0, 65));
-    assert!(rt; two_answers(&[Turn::Interrupted; 66]) == (Err(Fault), Ok(Some(b'.')), 1));
+    assert!(rt; first_answer(&[Answer::Interrupted; 64]) == (Ok(Some(b'.')), 0, 65));
+    assert!(rt; two_answers(&[Answer::Interrupted; 66]) == (Err(Fault), Ok(Some(b'.')), 1));
     assert_eq!(rt; RETRIES, 64);
 }
 
 /// Whether the text comes byte by byte from a reader that fails once, and that is counted.
-fn a_source_loses_none(turns: &[Turn]) -> bool {
+fn a_source_loses_none(turns: &[Answer]) -> bool {
     let mut source = FromReader::over(Uneven::new(TEXT, turns));
     gives_text(&mut source, 1) && source.failed_calls() == 1
 }
@@ -81,14 +81,14 @@ fn a_source_loses_none(turns: &[Turn]) -> bool {
 #[test]
 fn a_source_that_fails_loses_no_byte(rt: HostRuntime) {
     for place in 0..8 {
-        let mut turns = [Turn::AtMost(1); 8];
-        turns[place] = Turn::Broken;
+        let mut turns = [Answer::AtMost(1); 8];
+        turns[place] = Answer::Broken;
         assert!(rt; a_source_loses_none(&turns), "at {place}");
     }
 }
 
 /// Whether the text comes by way of a buffer from a reader that fails once, and that is counted.
-fn a_buffer_loses_none(turns: &[Turn]) -> bool {
+fn a_buffer_loses_none(turns: &[Answer]) -> bool {
     let mut room = [0; 4];
     let mut source = Buffered::over(Uneven::new(TEXT, turns), &mut room);
     gives_text(&mut source, 1) && source.failed_calls() == 1
@@ -97,8 +97,8 @@ fn a_buffer_loses_none(turns: &[Turn]) -> bool {
 #[test]
 fn a_buffer_that_fails_loses_no_byte(rt: HostRuntime) {
     for place in 0..8 {
-        let mut turns = [Turn::AtMost(1); 8];
-        turns[place] = Turn::Broken;
+        let mut turns = [Answer::AtMost(1); 8];
+        turns[place] = Answer::Broken;
         assert!(rt; a_buffer_loses_none(&turns), "at {place}");
     }
 }
@@ -110,7 +110,7 @@ fn ends_after<S: Source>(source: &mut S, used: usize) -> bool {
 }
 
 /// Whether a buffer sees the end after two bytes, and how often its reader was called.
-fn end_by_buffer(turns: &[Turn]) -> (bool, usize) {
+fn end_by_buffer(turns: &[Answer]) -> (bool, usize) {
     let mut room = [0; 4];
     let mut reader = Uneven::new(TEXT, turns);
     let ends = ends_after(&mut Buffered::over(&mut reader, &mut room), 2);
@@ -118,7 +118,7 @@ fn end_by_buffer(turns: &[Turn]) -> (bool, usize) {
 }
 
 /// Whether a source sees the end after one byte, and how often its reader was called.
-fn end_by_byte(turns: &[Turn]) -> (bool, usize) {
+fn end_by_byte(turns: &[Answer]) -> (bool, usize) {
     let mut reader = Uneven::new(TEXT, turns);
     let ends = ends_after(&mut FromReader::over(&mut reader), 1);
     (ends, reader.calls)
@@ -126,8 +126,8 @@ fn end_by_byte(turns: &[Turn]) -> (bool, usize) {
 
 #[test]
 fn an_end_is_seen_once(rt: HostRuntime) {
-    assert!(rt; end_by_buffer(&[Turn::AtMost(2), Turn::AtMost(0)]) == (true, 2));
-    assert!(rt; end_by_byte(&[Turn::AtMost(1), Turn::AtMost(0)]) == (true, 2));
+    assert!(rt; end_by_buffer(&[Answer::AtMost(2), Answer::AtMost(0)]) == (true, 2));
+    assert!(rt; end_by_byte(&[Answer::AtMost(1), Answer::AtMost(0)]) == (true, 2));
 }
 
 /// Whether these bytes are at hand, and this byte comes next once the first two of them, if there are two, are skipped.

@@ -9,7 +9,7 @@ pub const TEXT: &[u8; 7] = b".br\nabc";
 
 /// What a reader or a writer does at one call.
 #[derive(Clone, Copy)]
-pub enum Turn {
+pub enum Answer {
     AtMost(usize),
     Interrupted,
     Broken,
@@ -19,12 +19,12 @@ pub enum Turn {
 #[derive(Drop)]
 pub struct Uneven<'a> {
     bytes: &'a [u8],
-    turns: &'a [Turn],
+    turns: &'a [Answer],
     pub calls: usize,
 }
 
 impl<'a> Uneven<'a> {
-    pub fn new(bytes: &'a [u8], turns: &'a [Turn]) -> Self {
+    pub fn new(bytes: &'a [u8], turns: &'a [Answer]) -> Self {
         Uneven {
             bytes,
             turns,
@@ -49,14 +49,14 @@ impl Read for Uneven<'_> {
 pub struct Narrow<'a> {
     taken: [u8; 32],
     used: usize,
-    turns: &'a [Turn],
+    turns: &'a [Answer],
     pub calls: usize,
     pub flushes: usize,
     ghost within: { used ≤ 32 },
 }
 
 impl<'a> Narrow<'a> {
-    pub fn new(turns: &'a [Turn]) -> Self {
+    pub fn new(turns: &'a [Answer]) -> Self {
         Narrow {
             taken: [0; 32],
             used: 0,
@@ -90,15 +90,15 @@ impl Write for Narrow<'_> {
 }
 
 /// How many bytes the next turn allows.
-fn next_most(turns: &mut &[Turn]) -> io::Result<usize> {
+fn next_most(turns: &mut &[Answer]) -> io::Result<usize> {
     match turns.split_first() {
         None => Ok(usize::MAX),
         Some((turn, rest)) => {
             *turns = rest;
             match turn {
-                Turn::AtMost(count) => Ok(*count),
-                Turn::Interrupted => Err(io::Error::from(ErrorKind::Interrupted)),
-                Turn::Broken => Err(io::Error::from(ErrorKind::BrokenPipe)),
+                Answer::AtMost(count) => Ok(*count),
+                Answer::Interrupted => Err(io::Error::from(ErrorKind::Interrupted)),
+                Answer::Broken => Err(io::Error::from(ErrorKind::BrokenPipe)),
             }
         }
     }

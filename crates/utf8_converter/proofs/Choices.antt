@@ -162,7 +162,7 @@ if_best false page t none best other is = best other is
 pub chosen-best : (page : List ℕ) → IsBest page (chosen page)
 chosen-best page = if_best (covered page (fullest page) == 0) page (fullest page) refl (fullest_best page)
 
--- ---- the front of an input
+-- ---- the prefix of an input
 
 prefix_by : (q t : Supply) (room : ℕ) (items : List ℕ) → length items ≤ room → q.bytes ≡ items ++ t.bytes → (length items ≡ room) ⊎ (t.bytes ≡ []) → take room q.bytes ≡ items
 prefix_by q t room items within came (inl full) =

@@ -167,7 +167,7 @@ same-making m n xs ys e =
 
 -- ---- the answers
 
--- it got a front of what more bytes come to
+-- it got a prefix of what more bytes come to
 pub broke-more : (m : Making) (came more : List ℕ) (a : Option (List ℕ)) (f : ℕ) → Broke m came a f → AppendsPrefix m.begun a (converted m.table m.escapes (came ++ more))
 broke-more m came more a f br = let cut = Shown-broke m (came ++ more) a f (Broke-more m came more a f br) in cut.went_out
 

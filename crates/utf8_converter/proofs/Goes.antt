@@ -1,4 +1,4 @@
--- Cells that go into a room, one behind another.
+-- Cells that go into a room, one after another.
 use Rattle.std.proofs.Common.{◌≡◌, ℕ, ◌+◌, ◌-◌, ◌*◌, ◌⊎◌, inl, inr, ◌<◌, ◌≤◌, List, [], ◌∷◌, ◌++◌, length, take, drop, get_or, Bool, true, false, ◌&&◌, nat_lt, refl, sym, subst, ap, ◌∙◌, append-nil, append_assoc, length-drop, arith}
 use Rattle.std.proofs.lemmas.List.{get_or-take, length-append, length-take-le, take-append-le, take-take, take_all}
 use Rattle.std.proofs.Math.Seq.{take-add}
@@ -151,7 +151,7 @@ Puts-alone b r s old mid new from to end goes is first last =
     Puts-then old mid new (turning r.way Plain) (text r.table b) from to end first
     (subst Q (byte-text r.table b (goes-no_back r.table b goes)) (subst P (ap (λ (q : Reader). q.table) is) last))
 
--- ---- what is at the front of a room
+-- ---- what is at the beginning of a room
 
 pub Reads-none : (r s : Reader) (bs room : List ℕ) → s ≡ r → Reads r s bs 0 room 0
 Reads-none r s bs room e = record { all = ap (λ (q : Reader). emitted q [] 0) (sym e); within = omega arith }
@@ -206,7 +206,7 @@ prefixes r0 r s (b ∷ rest) bs n room mid new begin end m is some begin_is fill
 first_of_prefix : (bs : List ℕ) (n : ℕ) → 0 < n → 0 < length bs → get_or (take n bs) 0 0 ≡ get_or bs 0 0
 first_of_prefix bs n some more = get_or-take n bs 0 0 some
 
--- what stands at the front of a room once what was half read, cells, and what is half read then were taken out
+-- what stands at the beginning of a room once what was half read, cells, and what is half read then were taken out
 pub Reads-prefix : (r0 r s : Reader) (bs : List ℕ) (n : ℕ) (room mid new : List ℕ) (begin end m : ℕ) → 0 < n → 0 < length bs → begins r0 (get_or bs 0 0) ≡ true
     → Fills (released r0.half r0) r room 0 mid begin m → Goes r s bs n mid begin new end → end ≤ length new
     → Reads r0 (with_half (half_after s.table (take n bs)) s) bs n new (end - length (half_text s.table (half_after s.table (take n bs))))

@@ -1,4 +1,4 @@
--- What is half read behind whole cells.
+-- What is half read after whole cells.
 use Prim.Native.Char.{code}
 use Rattle.std.proofs.Common.{◌≡◌, ℕ, suc, ◌+◌, ◌-◌, ◌<◌, List, [], ◌∷◌, ◌++◌, length, take, get_or, Bool, true, false, not, ◌==◌, ◌&&◌, ◌||◌, nat_lt, if◌then◌else◌, refl, sym, subst, ap, ◌∙◌, append-nil, arith}
 use Rattle.std.proofs.lemmas.Bool.Decides.{nat_tests}
@@ -43,14 +43,14 @@ pub fed-table : (r : Reader) (bs : List ℕ) → (fed r bs).reader.table ≡ r.t
 fed-table r [] = refl
 fed-table r (b ∷ bs) = fed-table (read b r).reader bs ∙ after_table r.half b r
 
--- ---- what is half read behind a byte
+-- ---- what is half read after a byte
 
 is_backed : Half → Bool
 is_backed Nothing = false
 is_backed (Byte b) = false
 is_backed (Backspaced b) = true
 
--- behind a backspace a byte ends a cell, and else one that shows may be struck over
+-- after a backspace a byte ends a cell, and else one that shows may be struck over
 abbrev half_by : Bool → Bool → ℕ → Half
 half_by struck seen b = if struck || not seen then Nothing else Byte b
 
@@ -157,7 +157,7 @@ back_by x (Backspaced a) b r e half none = backed_back (strikes r.table a b) a b
 
 -- ---- many bytes
 
--- what is half read behind them, by whether a backspace stood before
+-- what is half read after them, by whether a backspace stood before
 abbrev half_last : Table → Bool → List ℕ → Half
 half_last t x [] = Nothing
 half_last t x (b ∷ []) = half_by x (shows t b) b
@@ -225,9 +225,9 @@ half_places t b (c ∷ cs) =
     ∙ ap (λ (x : Bool). half_by x (shows t (last_of bytes)) (last_of bytes)) (sym back)
     ∙ ap (λ (k : ℕ). half_by ((get_or bytes (length bytes - 2) 0 == 8) && nat_lt 1 (length bytes)) (shows t k) k) (sym last)
 
--- ---- what is told
+-- ---- what is emitted
 
--- what was read is told, and what may still be struck over is half read
+-- what was read is emitted, and what may still be struck over is half read
 pub record Held (r s : Reader) (xs bytes : List ℕ) : Type 0 where
   pub prefix : List ℕ
   pub all : fed r xs ≡ emitted (with_half (half_after r.table xs) s) prefix 0

@@ -11,9 +11,9 @@ use Rattle.utf8_converter.specs.declared.reader.Reader.{Reader}
 use Rattle.utf8_converter.specs.Cells.{Cell, Once, Over, alone, cells, converted, drawn, goes_out, printed, shows, size, sizes, strays_of, strikes, turning, way_after}
 use Rattle.utf8_converter.specs.Reading.{Emitted, preceded, ended, fed, first_reader, fresh, out, put_alone, read, read_after, released, released_and_fresh, shut, then_emitted, emitted, with_half}
 
--- ---- cells behind one another
+-- ---- cells after one another
 
--- what they come to, and the way behind them
+-- what they come to, and the way after them
 abbrev pub drawn_all : Table → Way → List Cell → List ℕ
 drawn_all table way [] = []
 drawn_all table way (c ∷ cs) = drawn table way c ++ drawn_all table (way_after way c) cs
@@ -45,7 +45,7 @@ sizes-append : (cs ds : List Cell) → sizes (cs ++ ds) ≡ sizes cs + sizes ds
 sizes-append [] ds = omega arith
 sizes-append (c ∷ cs) ds = ap (λ (n : ℕ). size c + n) (sizes-append cs ds) ∙ more (size c) (sizes cs) (sizes ds)
 
--- ---- what was told is that of cells
+-- ---- what was emitted is that of cells
 
 pub record Drawn (r : Reader) (cs : List Cell) (t : Emitted) : Type 0 where
   pub bytes : t.bytes ≡ drawn_all r.table r.way cs
@@ -132,7 +132,7 @@ both_false false y p = refl
 pub apart-hidden : (t : Table) (a : ℕ) (rest : List ℕ) → shows t a ≡ false → cells t (a ∷ rest) ≡ alone t a ++ cells t rest
 apart-hidden t a rest hidden = apart-by t a rest (λ b c. both_false (b == 8) (strikes t a c) (hidden-strikes t a c hidden))
 
--- what is told of a byte, and what it is in what came
+-- what is emitted of a byte, and what it is in what came
 record Kept (r : Reader) (h : Half) (b : ℕ) (t : Emitted) : Type 0 where
   marks : List Cell
   all : Drawn r marks t

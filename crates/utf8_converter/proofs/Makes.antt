@@ -21,7 +21,7 @@ use Rattle.utf8_converter.specs.Reading.{Emitted, preceded, fed, fresh, out, put
 use Rattle.utf8_converter.specs.Spelling.{IsFresh, Makes, is_shut, let_go, let_go_by, owed, rests, rests_by}
 use Rattle.utf8_converter.proofs.Reading.{fed-append, emitted-eq}
 
--- ---- what is told
+-- ---- what is emitted
 
 pub emitted-if : (x : Bool) (t u : Emitted) → x ≡ true → (if x then t else u) ≡ t
 emitted-if true t u p = refl
@@ -65,7 +65,7 @@ read-fresh b r e = ap (λ (h : Half). read_after h b r) e
 pub with-same : (r : Reader) → r.half ≡ Nothing → with_half Nothing r ≡ r
 with-same r e = ap (λ (h : Half). with_half h r) (sym e)
 
--- ---- cells behind cells
+-- ---- cells after cells
 
 -- a byte that is half read is no cell with what comes, unless that is a backspace
 release_by : (h : Half) (y : ℕ) (ys : List ℕ) (t : Emitted) → t.reader.half ≡ h → rests_by h t.reader.way ≡ true → (y == 8) ≡ false
@@ -85,7 +85,7 @@ release_by (Byte a) y ys t e rested isnt =
     ap (λ (v : Emitted). preceded t.bytes t.strays v) (rest ∙ ap (λ (v : Emitted). preceded A.bytes A.strays v) back)
     ∙ sym (preceded-twice t.bytes A.bytes t.strays A.strays (fed A.reader (y ∷ ys)))
 
--- bytes behind whole cells
+-- bytes after whole cells
 fed-preceded : (r s : Reader) (xs : List ℕ) (o : List ℕ) (y : ℕ) (ys : List ℕ) → Makes r s xs o → (y == 8) ≡ false → fed r (xs ++ y ∷ ys) ≡ preceded o 0 (fed s (y ∷ ys))
 fed-preceded r s xs o y ys m isnt =
     let t = fed r xs in

@@ -67,7 +67,7 @@ Reads-some a b r s p left i j bs n room end reads out =
     let P : List ℕ → Type 0 = λ xs. Flushes a b (p ++ xs) left in
     record { reader = reads.reader; out = subst P reads.out out; made = reads.made }
 
--- a front of what these bytes come to is one of what more come to
+-- a prefix of what these bytes come to is one of what more come to
 pub Prefix-more : (a b : Option (List ℕ)) (r : Reader) (p : List ℕ) (n : ℕ) (bytes : List ℕ) → AppendsPrefix a b (p ++ (fed r (take n bytes)).bytes) → AppendsPrefix a b (p ++ (fed r bytes).bytes)
 Prefix-more a b r p n bytes prefix =
     let rest = (fed (fed r (take n bytes)).reader (drop n bytes)).bytes in
@@ -76,7 +76,7 @@ Prefix-more a b r p n bytes prefix =
     let P : List ℕ → Type 0 = λ xs. AppendsPrefix a b xs in
     subst P (append_assoc p (fed r (take n bytes)).bytes rest ∙ ap (λ (xs : List ℕ). p ++ xs) whole) (AppendsPrefix-append a b (p ++ (fed r (take n bytes)).bytes) rest prefix)
 
--- and behind bytes that were read
+-- and after bytes that were read
 pub Prefix-then : (a b c : Option (List ℕ)) (r s : Reader) (p q : List ℕ) (i j : ℕ) (xs ys : List ℕ) → Reads a b r s p q i j xs → AppendsPrefix b c (q ++ (fed s ys).bytes)
     → AppendsPrefix a c (p ++ (fed r (xs ++ ys)).bytes)
 Prefix-then a b c r s p q i j xs ys f prefix =

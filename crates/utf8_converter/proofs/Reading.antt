@@ -12,7 +12,7 @@ none_before n = omega arith
 pub emitted-eq : (r s : Reader) (xs ys : List ℕ) (m n : ℕ) → r ≡ s → xs ≡ ys → m ≡ n → emitted r xs m ≡ emitted s ys n
 emitted-eq r s xs ys m n p q e = cc
 
--- behind nothing
+-- after nothing
 pub preceded-none : (t : Emitted) → preceded [] 0 t ≡ t
 preceded-none t = emitted-eq _ _ _ _ _ _ refl refl (none_before t.strays)
 

@@ -38,7 +38,7 @@ backed_far b c d p shaped = grind (arith, nat_tests)
 far_other : (d : ℕ) → nat_lt (code " ") d ≡ true → (d == 8) ≡ false
 far_other d far = grind (arith, nat_tests)
 
--- no backspace stands two places behind another
+-- no backspace stands two places after another
 pub no-other : (c d e : ℕ) → (c == 8) ≡ true → is_shaped c d e ≡ true → (e == 8) ≡ false
 no-other c d e p shaped = grind (arith, nat_tests)
 
@@ -263,7 +263,7 @@ shaped-chunk s r bytes long small spells whole way shapes =
           spells whole (λ k below. or_back bytes k first each (omega (arith, below, cut)) (first_or_after k));
     }
 
--- ---- its front
+-- ---- its prefix
 
 -- what ends no cell stands alone
 chunk_last : (s : Spelling) (r : Reader) (bytes : List ℕ) (k : ℕ) → IsChunk s r bytes → k < 32 → (get_or bytes k 0 == 8) ≡ false → (k ≡ 0) ⊎ (k - 1 + 1 ≡ k) → may_stand (get_or bytes k 0) ≡ true
@@ -304,7 +304,7 @@ prefix_shaped s r bytes n long small spells chunk few last =
 
 -- ---- what is put of it
 
--- what is left is put behind it
+-- what is left is put after it
 Puts-cut : (t : Table) (bs old new : List ℕ) (from to end n : ℕ) → Puts old from new to (bytes_of t bs) → from ≤ length old → to ≤ length new → end + length (bytes_of t (drop n bs)) ≡ to
     → Puts old from new end (bytes_of t (take n bs))
 Puts-cut t bs old new from to end n put begins room left =
@@ -320,7 +320,7 @@ Puts-cut t bs old new from to end n put begins room left =
     sym (take-take end to new (omega (arith, left))) ∙ ap (λ (xs : List ℕ). take end xs) all
     ∙ take-append-le end prefix (bytes_of t (drop n bs)) (omega (arith, same)) ∙ take_all end prefix (omega (arith, same))
 
--- that front of a chunk goes that ends in a whole cell
+-- that prefix of a chunk goes that ends in a whole cell
 pub Goes-chunk : (s : Spelling) (r : Reader) (bytes old new : List ℕ) (from to end n : ℕ) → IsFresh r → 34 ≤ length bytes → Small bytes → Spells r.table 256 s.all s.whole → IsChunk s r bytes
     → Cuts r.table bytes to n end → Puts old from new to (bytes_of r.table (take 32 bytes)) → from ≤ length old → to ≤ length new → Goes r r bytes n old from new end
 Goes-chunk s r bytes old new from to end n fresh long small spells chunk cuts put begins room =

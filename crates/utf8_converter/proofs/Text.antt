@@ -25,7 +25,7 @@ use Rattle.utf8_converter.specs.Text.{Part, Printed, Overstruck, Begin, End, cha
 use Rattle.utf8_converter.proofs.Kept.{drawn_all, few_cells, half_read, kept-all}
 use Rattle.utf8_converter.proofs.Makes.{few-drawn}
 
--- ---- texts behind one another
+-- ---- texts after one another
 
 and_both : (x y : Bool) → x ≡ true → y ≡ true → x && y ≡ true
 and_both true y p q = q

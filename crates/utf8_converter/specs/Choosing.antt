@@ -91,7 +91,7 @@ IsBest page table = (other : Table) → IsChoice other → covered page other �
 abbrev pub looked_at : ℕ
 looked_at = 65536
 
--- what is told of a source with these bytes to come
+-- what is emitted of a source with these bytes to come
 abbrev pub Chooses : {E : Type 0} → Option Supply → Result Table E → Type 0
 Chooses None result = ⊤
 Chooses (Some q) (Ok table) =
@@ -123,7 +123,7 @@ Comes None bytes new = ⊤
 Comes (Some q) bytes None = ⊥
 Comes (Some q) bytes (Some t) = q.bytes ≡ bytes ++ t.bytes
 
--- some bytes came behind these
+-- some bytes came after these
 pub record ComesAfter (old new : Option Supply) (before items : List ℕ) : Type 0 where
   pub bytes : List ℕ
   pub came : Comes old bytes new

@@ -29,7 +29,7 @@ AllLow bytes = (k : ℕ) → k < length bytes → nat_lt (get_or bytes k 0) 127 
 
 -- ---- what is kept of a table
 
--- The bytes of a character are four here: those that go out at their front, and 64 times the number of these.
+-- The bytes of a character are four here: those that go out at their beginning, and 64 times the number of these.
 abbrev pub count_of : List ℕ → ℕ
 count_of s = get_or s 3 0 / 64
 
@@ -56,7 +56,7 @@ AllSpelled all bytes = (k : ℕ) → k < length bytes → 0 < count_of (get_or a
 
 -- ---- what is put into a room
 
--- these bytes stand there after what stood at its front
+-- these bytes stand there after what stood at its beginning
 abbrev pub Puts : List ℕ → ℕ → List ℕ → ℕ → List ℕ → Type 0
 Puts old from new end bytes = take end new ≡ take from old ++ bytes
 
@@ -135,12 +135,12 @@ pub record Goes (r s : Reader) (bytes : List ℕ) (taken : ℕ) (old : List ℕ)
   pub within : taken ≤ length bytes
   pub few : end + owed s.way ≤ from + 4 * taken + owed r.way
 
--- so many bytes were read, and what they come to stands at the front of a room
+-- so many bytes were read, and what they come to stands at the beginning of a room
 pub record Reads (r s : Reader) (bytes : List ℕ) (taken : ℕ) (room : List ℕ) (end : ℕ) : Type 0 where
   pub all : fed r (take taken bytes) ≡ emitted s (take end room) 0
   pub within : taken ≤ length bytes
 
--- what stands at the front of a room is what was told
+-- what stands at the beginning of a room is what was emitted
 pub record Fills (t : Emitted) (s : Reader) (old : List ℕ) (from : ℕ) (new : List ℕ) (end strays : ℕ) : Type 0 where
   pub reader : s ≡ t.reader
   pub put : Puts old from new end t.bytes

@@ -16,7 +16,7 @@ strays_said r false bytes = (fed r bytes).strays
 abbrev pub counted : ℕ → Reader → Bool → List ℕ → ℕ
 counted n r ends bytes = at_most (n + strays_said r ends bytes)
 
--- So many of these bytes were read, and what they come to stands at the front of a room.
+-- So many of these bytes were read, and what they come to stands at the beginning of a room.
 pub record ReadsSome (r s : Reader) (bytes : List ℕ) (taken : ℕ) (room : List ℕ) (end i j : ℕ) : Type 0 where
   pub some : 0 < taken
   pub within : taken ≤ length bytes

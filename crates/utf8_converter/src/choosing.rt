@@ -248,7 +248,7 @@ pub fn choose<R: Source>(input: &mut R, page: &mut [u8], counts: &mut [u32]) -> 
     requires page { length page.old ≡ 65536 }
     requires counts { length counts.old ≡ 10240 }
     ensures value { specs.Chooses (R.supply input.old) result }
-    // An error is told where a call of the source failed.
+    // An error is emitted where a call of the source failed.
     ensures failures { R.failures input.new ≡ counted (R.failures input.old) result }
 {
     let mut prefix = SliceVec::over(page);

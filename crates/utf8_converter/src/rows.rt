@@ -38,7 +38,7 @@ impl Spelling {
         None
     }
 
-    /// Of a chunk that was put up to here that front is taken which ends in a whole cell.
+    /// Of a chunk that was put up to here that prefix is taken which ends in a whole cell.
     #[inline(always)]
     fn cut(&self, reader: &Reader, bytes: &[u8], to: usize) -> Reached
         requires serves { specs.Serves self.now reader.now }
@@ -179,7 +179,7 @@ impl Spelling {
         }
     }
 
-    /// The cells that these bytes begin with are read, and what they come to is put at the front of a room.
+    /// The cells that these bytes begin with are read, and what they come to is put at the beginning of a room.
     pub(crate) fn read_cells(&self, reader: &mut Reader, bytes: &[u8], room: &mut [u8]) -> Reached
         requires serves { specs.Serves self.now reader.old }
         requires room { 2176 ≤ length room.old }

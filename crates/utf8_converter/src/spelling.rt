@@ -15,7 +15,7 @@ const BEGIN: usize = 2048;
 /// How long a room is.
 pub(crate) const ROOM: usize = BEGIN + 4 * CHUNK;
 
-/// What goes out of a byte: three bytes at most, at the front, and 64 times their number. All four are copied at once,
+/// What goes out of a byte: three bytes at most, at the beginning, and 64 times their number. All four are copied at once,
 /// and what two bits hold is no more than 3, so that no place is tested for each byte.
 type Spelled = [u8; 4];
 

@@ -25,7 +25,7 @@ const MOST: usize = 1536;
 pub struct Turner {
     reader: Reader,
     spelling: Spelling,
-    // At its front stands what comes of the bytes that were read last.
+    // At its beginning stands what comes of the bytes that were read last.
     room: [u8; ROOM],
     // So many bytes were dropped, or more than it can say.
     strays: u64,
@@ -59,7 +59,7 @@ impl Turner {
         self.strays
     }
 
-    /// Some of these bytes are read, and what they come to is put at the front of the room.
+    /// Some of these bytes are read, and what they come to is put at the beginning of the room.
     pub(crate) fn read_some(&mut self, bytes: &[u8]) -> Reached
         requires some { 0 < length bytes.now }
         ensures reads { ReadsSome self.old.reader self.new.reader bytes.now result.taken self.new.room result.end
@@ -82,7 +82,7 @@ impl Turner {
         }
     }
 
-    /// The end comes, and what it comes to is put at the front of the room. Tells up to where.
+    /// The end comes, and what it comes to is put at the beginning of the room. Tells up to where.
     pub(crate) fn read_end(&mut self) -> usize
         ensures reader { self.new.reader ≡ (ended self.old.reader).reader }
         ensures out { take result self.new.room ≡ (ended self.old.reader).bytes }
@@ -94,7 +94,7 @@ impl Turner {
         filled.end
     }
 
-    /// What stands at the front of the room, up to this place.
+    /// What stands at the beginning of the room, up to this place.
     pub(crate) fn text(&self, end: usize) -> &[u8]
         requires { end ≤ 1536 }
         ensures { result.now ≡ take end self.now.room }

@@ -67,7 +67,7 @@ abbrev pub each_is_somewhere : Choice → List Cluster → List Count → Bool
 each_is_somewhere k out [] = true
 each_is_somewhere k out (x ∷ xs) = (is_in k x.cluster || is_among x.cluster out) && each_is_somewhere k out xs
 
--- each that was counted is in the table, or told
+-- each that was counted is in the table, or reported
 abbrev pub NoneIsLost : Type 0
 NoneIsLost = (xs : List Count) → each_is_somewhere (chosen nothing xs) (left_out nothing xs) xs ≡ true
 
@@ -79,7 +79,7 @@ abbrev pub wide_count : List Count → ℕ
 wide_count [] = 0
 wide_count (x ∷ xs) = (if is_wide x.cluster then 1 else 0) + wide_count xs
 
--- where all have room, none is told
+-- where all have room, none is reported
 abbrev pub AllFit : Type 0
 AllFit = (xs : List Count) → has_room (narrow_count xs) (wide_count xs) ≡ true → left_out nothing xs ≡ []
 

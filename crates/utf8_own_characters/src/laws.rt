@@ -30,11 +30,11 @@ pub fn columns_are_kept()
     ensures rows { ColumnsStay }
 {}
 
-/// What is chosen of clusters that are counted once each makes a table that is read in one way. Each of them is in the table or told, and
-/// where all have room, none is told. Where one has no room, none of those after it that are as wide has.
+/// What is chosen of clusters that are counted once each makes a table that is read in one way. Each of them is in the table or reported, and
+/// where all have room, none is reported. Where one has no room, none of those after it that are as wide has.
 ///
-/// Proved: What is chosen of clusters that are counted once each makes such a table; each of them is in it or told,
-/// where all have room none is told, and where one has none, none of those after it that are as wide has: so those
+/// Proved: What is chosen of clusters that are counted once each makes such a table; each of them is in it or reported,
+/// where all have room none is reported, and where one has none, none of those after it that are as wide has: so those
 /// that come most often are in it. (`choices_are_good`, `choose` in choosing.rt)
 pub fn choices_are_good()
     ensures good { ChoiceIsGood }

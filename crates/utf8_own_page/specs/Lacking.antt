@@ -1,4 +1,4 @@
--- The characters that a page's own table has no room for, and how they are told.
+-- The characters that a page's own table has no room for, and how they are reported.
 use Rattle.std.specs.Prelude.{◌≡◌, ℕ, ◌-◌, ◌/◌, ◌%◌, List, [], ◌∷◌, ◌++◌, length, take, flat_map, get_or, codes, decimal, ◌==◌, nat_le, if◌then◌else◌}
 use Rattle.std.specs.List.{concat}
 use Rattle.utf8_own_characters.specs.declared.cluster.Cluster.{Cluster}
@@ -14,7 +14,7 @@ lacking k (x ∷ xs) = if is_in k x.cluster then lacking k xs else x.cluster ∷
 abbrev pub left_of : List Count → List Cluster
 left_of xs = lacking (chosen nothing xs) xs
 
--- ---- how they are told
+-- ---- how they are reported
 
 -- a digit of base 16
 abbrev pub digit : ℕ → ℕ
@@ -39,6 +39,6 @@ name_of c = number_of c.letter ++ mark_of c.first_mark ++ mark_of c.second_mark 
 abbrev pub more_of : ℕ → List ℕ
 more_of n = if n == 0 then [] else concat (codes " and " ∷ decimal n ∷ codes " more" ∷ [])
 
--- THE FIRST EIGHT are named, and it is told how many more there are
+-- THE FIRST EIGHT are named, and it is reported how many more there are
 abbrev pub names_of : List Cluster → List ℕ
 names_of cs = flat_map (λ c. codes " " ++ name_of c) (take 8 cs) ++ more_of (length cs - 8)

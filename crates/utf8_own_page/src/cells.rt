@@ -122,7 +122,7 @@ impl Cells {
 
     /// Names those that have no room: the first eight of them, and how many more there are. There is nothing where all have room.
     ///
-    /// Proved: What is told of characters that are not shown are the numbers of the most frequent eight that were counted and are
+    /// Proved: What is reported of characters that are not shown are the numbers of the most frequent eight that were counted and are
     /// not in the table of a page, and how many more there are. (`left_out`; `names_of` in Lacking.antt)
     pub fn left_out(&self, alloc: Global) -> Result<Vec<u8>, AllocError>
         ensures { IfOk result (λ text. text.items ≡ names_of (left_of self.now)) }

@@ -107,7 +107,7 @@ converted-fed t escapes bs =
     ap (λ (zs : List ℕ). rest t (first escapes) zs) (sym (append-nil bs)) ∙ rest-parts t (first escapes) bs []
     ∙ ap (λ (zs : List ℕ). (fed t (first escapes) bs).bytes ++ zs) (rest-ended t r)
 
--- ---- bytes behind others
+-- ---- bytes after others
 
 pub fed-append_reader : (t : Characters) (r : Reader) (xs ys : List ℕ) → (fed t r (xs ++ ys)).reader ≡ (fed t (fed t r xs).reader ys).reader
 fed-append_reader t r [] ys = refl

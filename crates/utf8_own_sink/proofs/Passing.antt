@@ -38,7 +38,7 @@ Reads-then t a b c r s u p q left xs ys f g =
       out = subst P (append_assoc p F.bytes (fed t s ys).bytes ∙ ap (λ (zs : List ℕ). p ++ zs) (sym bytes)) (Flushes-then a b c (p ++ F.bytes) q left (fed t s ys).bytes f.out g.out);
     }
 
--- a prefix of what these bytes come to, behind bytes that were read
+-- a prefix of what these bytes come to, after bytes that were read
 pub Prefix-then : (t : Characters) (a b c : Option (List ℕ)) (r s : Reader) (p q xs ys : List ℕ) → Reads t a b r s p q xs → AppendsPrefix b c (q ++ (fed t s ys).bytes) → AppendsPrefix a c (p ++ (fed t r (xs ++ ys)).bytes)
 Prefix-then t a b c r s p q xs ys f prefix =
     let F = fed t r xs in
@@ -47,7 +47,7 @@ Prefix-then t a b c r s p q xs ys f prefix =
     let P : List ℕ → Type 0 = λ zs. AppendsPrefix a c zs in
     subst P (append_assoc p F.bytes (fed t s ys).bytes ∙ ap (λ (zs : List ℕ). p ++ zs) (sym bytes)) (AddsPrefix-then a b c (p ++ F.bytes) q (fed t s ys).bytes f.out prefix)
 
--- one byte: room is made, and what it comes to is put behind what waits
+-- one byte: room is made, and what it comes to is put after what waits
 pub Reads-one : (t : Characters) (a b : Option (List ℕ)) (r s : Reader) (p q left : List ℕ) (byte : ℕ) → Flushes a b p q → s ≡ (fed t r (byte ∷ [])).reader
     → left ≡ q ++ (fed t r (byte ∷ [])).bytes → Reads t a b r s p left (byte ∷ [])
 Reads-one t a b r s p q left byte f is put =
@@ -97,7 +97,7 @@ Waits-out t (Err e) a b r p left went prefix none =
     let P : List ℕ → Type 0 = λ zs. AppendsPrefix a b zs in
     subst P (sym (append-nil p)) prefix
 
--- the end, behind what waits
+-- the end, after what waits
 Closes : (a b c : Option (List ℕ)) (p q e : List ℕ) → Flushes a b p q → Appends b c (q ++ e) → Appends a c (p ++ e)
 Closes a b c p q e f went =
     subst (λ (zs : List ℕ). Appends a c zs) (sym (append_assoc f.out q e) ∙ ap (λ (zs : List ℕ). zs ++ e) (sym f.all)) (Appends-trans a b c f.out (q ++ e) f.went_out went)

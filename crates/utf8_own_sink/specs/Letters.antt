@@ -44,7 +44,7 @@ struck_text c Plain = []
 struck_text c Under = code "_" ∷ 8 ∷ []
 struck_text c Bold = text_of c ++ 8 ∷ []
 
--- or stands behind what ends one look and begins another
+-- or stands after what ends one look and begins another
 abbrev pub turned : Look → Look → List ℕ
 turned was look = if is_same was look then [] else closing was ++ opening look
 

@@ -276,7 +276,7 @@ impl Reader {
         self.half = Half::Nothing;
     }
 
-    /// A byte comes behind another: at most 198 bytes go out.
+    /// A byte comes after another: at most 198 bytes go out.
     #[inline]
     fn go_on(&mut self, held: u8, byte: u8, table: &Table<'_>, out: &mut SliceVec<'_, u8>)
         requires { length out.old.items + 198 ≤ out.old.capacity }

@@ -1,4 +1,4 @@
--- The texts so far give what they would, and what is wrong with them was told.
+-- The texts so far give what they would, and what is wrong with them was reported.
 use Rattle.std.proofs.Common.{◌≡◌, ◌++◌, drop, length, map, false}
 use Rattle.std.specs.Vec.Iter.{into_iter_items, into_iter_len}
 use Rattle.document_stages.specs.Joined.{joined}

@@ -1,6 +1,6 @@
 use Rattle.std.proofs.Common.{◌≡◌, refl, sym, ◌∙◌, arith}
 use Rattle.tbl_reader.proofs.Turning.{Stands-first, Stands-took, Ran-broken, Ran-done, Ran-fault, Ran-long, Stands-stays, Turns-stay}
-use Rattle.tbl_reader.specs.declared.running.Turn.TheVariants as turns
+use Rattle.tbl_reader.specs.declared.running.TurnResult.TheVariants as turns
 use Rattle.tbl_reader.proofs.Whole.{lines_pass, lines_are_read}
 use Rattle.tbl_reader.proofs.running.read_page.Goals as goal
 

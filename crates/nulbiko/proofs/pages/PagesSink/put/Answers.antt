@@ -2,7 +2,7 @@ use Rattle.std.proofs.Common.{◌-◌, take, drop, sym}
 use Rattle.std.proofs.lemmas.List.{take-append-drop}
 use Rattle.nulbiko.proofs.pages.PagesSink.put.Goals as goal
 
--- the front is what fits
+-- the prefix is what fits
 pub returns-clause-err : goal.returns-clause-err
 returns-clause-err c =
     let room = c.capacity.result - c.len.result in

@@ -1,4 +1,4 @@
--- Room is made, and what the end comes to goes out behind what waits.
+-- Room is made, and what the end comes to goes out after what waits.
 use Rattle.utf8_own_sink.specs.Reading.{ended}
 use Rattle.utf8_own_sink.proofs.Passing.{Closes-err, Closes-ok, Closes-room}
 use Rattle.utf8_own_sink.proofs.turner.Turner.close.Goals as goal

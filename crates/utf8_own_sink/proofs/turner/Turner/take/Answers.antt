@@ -1,4 +1,4 @@
--- Room is made, and what the byte comes to is put behind what waits.
+-- Room is made, and what the byte comes to is put after what waits.
 use Rattle.std.proofs.Common.{[], ◌∷◌, ◌++◌, sym, ◌∙◌, ap, append-nil}
 use Rattle.nr_units.proofs.Prefixes.{AppendsPrefix-append}
 use Rattle.utf8_own_sink.specs.Reading.{fed, said}
