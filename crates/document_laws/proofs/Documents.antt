@@ -11,8 +11,8 @@ use Rattle.nr_laws.proofs.OutputLaws.{limits_unmet, one_answer, wider_limits}
 use Rattle.nr_laws.proofs.PrintedLaw.{no_control_goes_out}
 use Rattle.document_printing.specs.Document.{Ran, Setting, pages_of, state_of, reported}
 use Rattle.document_printing.specs.Showing.{document, in_utf8, shown}
-use Rattle.document_printing.specs.declared.setup.Outcome.{Outcome}
-use Rattle.document_printing.specs.declared.setup.Outcome.TheVariants.{Done, Limit, NoRoom, ReadFault, TooLong, WriteFault}
+use Rattle.document_printing.specs.declared.setup.PageEnd.{PageEnd}
+use Rattle.document_printing.specs.declared.setup.PageEnd.TheVariants.{Done, Limit, NoRoom, ReadFault, TooLong, WriteFault}
 use Rattle.document_printing.specs.declared.showing.PageTable.{PageTable}
 use Rattle.document_printing.specs.declared.showing.PageTable.TheVariants.{Fixed, Own}
 use Rattle.document_printing.specs.declared.showing.Spelling.{Spelling}
@@ -22,15 +22,15 @@ use Rattle.document_laws.proofs.Lines.{AreLines, lines-prefix, pages-lines}
 use Rattle.document_laws.proofs.OwnLines.{own-lines-prefix}
 
 -- what the formatter came to, of which that is shown
-record Came (s : Setting) (spelling : Spelling) (source : Supply) (n : ℕ) (outcome : Outcome) (out : List ℕ) : Type 0 where
-  end : machine.Outcome
+record Came (s : Setting) (spelling : Spelling) (source : Supply) (n : ℕ) (outcome : PageEnd) (out : List ℕ) : Type 0 where
+  end : machine.PageEnd
   reported_so : reported end false ≡ outcome
   settled : is_settled source.faults end ≡ true
   ran : Ran s source n end
   answers : AnswersWith s.limits s.options source n end (pages_of s source n)
   out_is : out ≡ document s spelling source n
 
-came : (s : Setting) (spelling : Spelling) (source : Supply) (n : ℕ) (outcome : Outcome) (out : List ℕ) → Reaches s spelling source n outcome out → Came s spelling source n outcome out
+came : (s : Setting) (spelling : Spelling) (source : Supply) (n : ℕ) (outcome : PageEnd) (out : List ℕ) → Reaches s spelling source n outcome out → Came s spelling source n outcome out
 came s spelling source n Done out r =
     let ran = r.shows.ran in
     record {
@@ -82,7 +82,7 @@ done_stays s b spelling source n n' outcome' out out' least r r' =
     record { runs = ran.runs; allowed = ran.allowed; ends = ran.ends; writes = refl; bound = ran.bound } in
     let c' = came (under b s) spelling source n' outcome' out' r' in
     let same = limits_unmet s.limits b s.options source n n' machines.Done c'.end (pages_of s source n) (pages_of (under b s) source n') least answers c'.answers refl refl c'.settled in
-    (same.0, ap (λ (e : machine.Outcome). reported e false) same.1 ∙ c'.reported_so, r.shows.out ∙ ap (λ (z : List ℕ). shown spelling z) same.2 ∙ sym c'.out_is)
+    (same.0, ap (λ (e : machine.PageEnd). reported e false) same.1 ∙ c'.reported_so, r.shows.out ∙ ap (λ (z : List ℕ). shown spelling z) same.2 ∙ sym c'.out_is)
 
 -- ---- one document
 
@@ -91,7 +91,7 @@ one_document s spelling source n n' outcome outcome' out out' r r' =
     let c = came s spelling source n outcome out r in
     let c' = came s spelling source n' outcome' out' r' in
     let same = one_answer s.limits s.options source n n' c.end c'.end (pages_of s source n) (pages_of s source n') c.answers c'.answers c.settled c'.settled in
-    (same.0, sym c.reported_so ∙ ap (λ (e : machine.Outcome). reported e false) same.1 ∙ c'.reported_so, c.out_is ∙ ap (λ (z : List ℕ). shown spelling z) same.2 ∙ sym c'.out_is)
+    (same.0, sym c.reported_so ∙ ap (λ (e : machine.PageEnd). reported e false) same.1 ∙ c'.reported_so, c.out_is ∙ ap (λ (z : List ℕ). shown spelling z) same.2 ∙ sym c'.out_is)
 
 -- ---- moves, and what goes out as it is
 

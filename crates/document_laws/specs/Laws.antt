@@ -9,20 +9,20 @@ use Rattle.nr_laws.specs.Laws.{AtLeast, IsPrefixOf, is_settled}
 use Rattle.nr_laws.specs.Printed.{is_of_row}
 use Rattle.document_printing.specs.Document.{Setting, state_of}
 use Rattle.document_printing.specs.Showing.{Shows}
-use Rattle.document_printing.specs.declared.setup.Outcome.{Outcome}
-use Rattle.document_printing.specs.declared.setup.Outcome.TheVariants.{Done, Limit}
+use Rattle.document_printing.specs.declared.setup.PageEnd.{PageEnd}
+use Rattle.document_printing.specs.declared.setup.PageEnd.TheVariants.{Done, Limit}
 use Rattle.document_printing.specs.declared.showing.Spelling.{Spelling}
 use Rattle.document_printing.specs.declared.showing.Spelling.TheVariants.{Bytes}
 
 -- all was shown, or a limit stopped it
-abbrev pub is_ended : Outcome → Bool
+abbrev pub is_ended : PageEnd → Bool
 is_ended Done = true
 is_ended (Limit which at) = true
 is_ended outcome = false
 
 -- A page is shown over an output that is empty at first, and ends so after so many moves: all is shown or a limit stops it, and
 -- this has gone out.
-pub record Reaches (s : Setting) (spelling : Spelling) (source : Supply) (n : ℕ) (outcome : Outcome) (out : List ℕ) : Type 0 where
+pub record Reaches (s : Setting) (spelling : Spelling) (source : Supply) (n : ℕ) (outcome : PageEnd) (out : List ℕ) : Type 0 where
   pub ended : is_ended outcome ≡ true
   pub shows : Shows s spelling source n outcome (Some []) (Some out)
 
@@ -33,7 +33,7 @@ under b s = record s { limits = b }
 -- Wider limits only lengthen what a reader gets.
 abbrev pub WiderLimitsLengthen : Type 0
 WiderLimitsLengthen =
-    (s : Setting) (b : Bounds) (spelling : Spelling) (source : Supply) (n n' : ℕ) (outcome outcome' : Outcome)
+    (s : Setting) (b : Bounds) (spelling : Spelling) (source : Supply) (n n' : ℕ) (outcome outcome' : PageEnd)
     (out out' : List ℕ)
     → AtLeast s.limits b → Reaches s spelling source n outcome out
     → Reaches (under b s) spelling source n' outcome' out' → IsPrefixOf out out'
@@ -41,7 +41,7 @@ WiderLimitsLengthen =
 -- Where all was shown, it is the same.
 abbrev pub DoneStays : Type 0
 DoneStays =
-    (s : Setting) (b : Bounds) (spelling : Spelling) (source : Supply) (n n' : ℕ) (outcome' : Outcome)
+    (s : Setting) (b : Bounds) (spelling : Spelling) (source : Supply) (n n' : ℕ) (outcome' : PageEnd)
     (out out' : List ℕ)
     → AtLeast s.limits b → Reaches s spelling source n Done out
     → Reaches (under b s) spelling source n' outcome' out' → (n ≡ n') × (Done ≡ outcome') × (out ≡ out')
@@ -49,19 +49,19 @@ DoneStays =
 -- There is one document.
 abbrev pub OneDocument : Type 0
 OneDocument =
-    (s : Setting) (spelling : Spelling) (source : Supply) (n n' : ℕ) (outcome outcome' : Outcome) (out out' : List ℕ)
+    (s : Setting) (spelling : Spelling) (source : Supply) (n n' : ℕ) (outcome outcome' : PageEnd) (out out' : List ℕ)
     → Reaches s spelling source n outcome out → Reaches s spelling source n' outcome' out'
     → (n ≡ n') × (outcome ≡ outcome') × (out ≡ out')
 
 -- It takes so many moves at most: as are allowed, and as the bytes that were taken allow.
 abbrev pub FewMoves : Type 0
 FewMoves =
-    (s : Setting) (spelling : Spelling) (source : Supply) (n : ℕ) (outcome : Outcome) (out : List ℕ)
+    (s : Setting) (spelling : Spelling) (source : Supply) (n : ℕ) (outcome : PageEnd) (out : List ℕ)
     → Reaches s spelling source n outcome out → (n ≤ s.limits.moves)
     × (n ≤ moves_a_byte s.limits * ((state_of s source n).coming.taken + 1))
 
 -- Where bytes go out as they are, of the control bytes of ASCII only newline and backspace do.
 abbrev pub NoControlGoesOut : Type 0
 NoControlGoesOut =
-    (s : Setting) (source : Supply) (n : ℕ) (outcome : Outcome) (out : List ℕ)
+    (s : Setting) (source : Supply) (n : ℕ) (outcome : PageEnd) (out : List ℕ)
     → Reaches s Bytes source n outcome out → All (λ byte. (is_of_row byte || byte == 8) ≡ true) out

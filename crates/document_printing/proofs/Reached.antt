@@ -18,8 +18,8 @@ use Rattle.utf8_own_characters.specs.Table.{Characters}
 use Rattle.utf8_own_sink.specs.Cells as own
 use Rattle.utf8_own_sink.specs.Showing as owns
 use Rattle.utf8_own_sink.proofs.Finishing.{emitted-append}
-use Rattle.document_printing.specs.declared.setup.Outcome.{Outcome}
-use Rattle.document_printing.specs.declared.setup.Outcome.TheVariants as outcomes
+use Rattle.document_printing.specs.declared.setup.PageEnd.{PageEnd}
+use Rattle.document_printing.specs.declared.setup.PageEnd.TheVariants as outcomes
 use Rattle.document_printing.specs.declared.showing.PageTable.TheVariants.{Fixed}
 use Rattle.document_printing.specs.declared.showing.Spelling.{Spelling}
 use Rattle.document_printing.specs.declared.showing.Spelling.TheVariants.{Bytes, Utf8}
@@ -32,10 +32,10 @@ use Rattle.document_printing.specs.Laws.{IsPrefixOfText, is_whole}
 prefixes : (held new : Option (List ℕ)) (bytes : List ℕ) → Appends held new bytes → AppendsPrefix held new bytes
 prefixes held new bytes out = (bytes, [], sym (append-nil bytes), out)
 
-shows_goes : (s : Setting) (source : Supply) (n : ℕ) (ended : machine.Outcome) (held new : Option (List ℕ)) → GoesOut s source n ended held new → IsShown s Bytes source n ended held new
+shows_goes : (s : Setting) (source : Supply) (n : ℕ) (ended : machine.PageEnd) (held new : Option (List ℕ)) → GoesOut s source n ended held new → IsShown s Bytes source n ended held new
 shows_goes s source n ended held new g = record { ran = g.ran; out = g.out }
 
-pub shows-bytes : (s : Setting) (source : Supply) (n : ℕ) (o : Outcome) (held new : Option (List ℕ)) → Prints s source n o held new → Shows s Bytes source n o held new
+pub shows-bytes : (s : Setting) (source : Supply) (n : ℕ) (o : PageEnd) (held new : Option (List ℕ)) → Prints s source n o held new → Shows s Bytes source n o held new
 shows-bytes s source n outcomes.Done held new p = shows_goes s source n machines.Done held new p
 shows-bytes s source n (outcomes.Limit which at) held new p = shows_goes s source n (machines.Limit which at) held new p
 shows-bytes s source n outcomes.NoRoom held new p = p
@@ -43,7 +43,7 @@ shows-bytes s source n outcomes.ReadFault held new p = prefixes held new (pages_
 shows-bytes s source n outcomes.TooLong held new p = prefixes held new (pages_of s source n) p
 shows-bytes s source n outcomes.WriteFault held new p = record { made = suc n; few = omega arith; prefix = p }
 
-pub shows-bytes-as : (w : Spelling) (s : Setting) (source : Supply) (n : ℕ) (o : Outcome) (held new : Option (List ℕ)) → w ≡ Bytes → Prints s source n o held new → Shows s w source n o held new
+pub shows-bytes-as : (w : Spelling) (s : Setting) (source : Supply) (n : ℕ) (o : PageEnd) (held new : Option (List ℕ)) → w ≡ Bytes → Prints s source n o held new → Shows s w source n o held new
 shows-bytes-as w s source n o held new is p = subst (λ (x : Spelling). Shows s x source n o held new) (sym is) (shows-bytes s source n o held new p)
 
 -- ---- characters are shown
@@ -91,7 +91,7 @@ short_shown s w begun failed source n before bytes puts new after x e came some 
     let P : List ℕ → Type 0 = λ xs. AppendsPrefix begun new (shown w xs) in
     record { made = suc n; few = omega arith; prefix = subst P (sym came.2) (e.broke came.0 came.1 came.3 some) }
 
-pub shows-ended : {T : Type 0} (s : Setting) (w : Spelling) (begun : Option (List ℕ)) (failed : ℕ) (source : Supply) (n : ℕ) (o : Outcome) (before bytes : List ℕ) (none puts : ℕ) (new : Option (List ℕ)) (after : ℕ) (x : Result T Fault) → none ≡ 0 → Ended T w begun failed before bytes puts new after x → Prints s source n o (Some before) (Some bytes) → TellsWrites o none puts
+pub shows-ended : {T : Type 0} (s : Setting) (w : Spelling) (begun : Option (List ℕ)) (failed : ℕ) (source : Supply) (n : ℕ) (o : PageEnd) (before bytes : List ℕ) (none puts : ℕ) (new : Option (List ℕ)) (after : ℕ) (x : Result T Fault) → none ≡ 0 → Ended T w begun failed before bytes puts new after x → Prints s source n o (Some before) (Some bytes) → TellsWrites o none puts
     → Shows s w source n (reported_shown o (is_err x)) begun new
 shows-ended s w begun failed source n outcomes.Done before bytes none puts new after (Ok k) zero e p tells = record { ran = p.ran; out = all_shown s w begun failed source n before bytes puts new after k e p.out }
 shows-ended s w begun failed source n outcomes.Done before bytes none puts new after (Err f) zero e p tells = record { made = n; few = omega arith; prefix = prefix_shown s w begun failed source n before bytes puts new after f e p.out }
@@ -108,13 +108,13 @@ shows-ended s w begun failed source n outcomes.WriteFault before bytes none puts
 shows-ended s w begun failed source n outcomes.WriteFault before bytes none puts new after (Err f) zero e p tells =
     short_shown s w begun failed source n before bytes puts new after (Err f) e p (λ none_did. next_some (sym (ap next_count zero) ∙ sym tells ∙ none_did))
 
-pub shows-as : {T : Type 0} (s : Setting) (w : Spelling) (begun : Option (List ℕ)) (failed : ℕ) (source : Supply) (n : ℕ) (v : Spelling) (k : ℕ) (o said : Outcome) (before bytes : List ℕ) (none puts : ℕ) (new : Option (List ℕ)) (after : ℕ) (x : Result T Fault)
+pub shows-as : {T : Type 0} (s : Setting) (w : Spelling) (begun : Option (List ℕ)) (failed : ℕ) (source : Supply) (n : ℕ) (v : Spelling) (k : ℕ) (o said : PageEnd) (before bytes : List ℕ) (none puts : ℕ) (new : Option (List ℕ)) (after : ℕ) (x : Result T Fault)
     → v ≡ w → k ≡ n → said ≡ reported_shown o (is_err x) → none ≡ 0 → Ended T w begun failed before bytes puts new after x
     → Prints s source n o (Some before) (Some bytes) → TellsWrites o none puts → Shows s v source k said begun new
 shows-as s w begun failed source n v k o said before bytes none puts new after x is moves same zero e p tells =
     let P : Spelling → Type 0 = λ y. Shows s y source k said begun new in
     let Q : ℕ → Type 0 = λ y. Shows s w source y said begun new in
-    let R : Outcome → Type 0 = λ y. Shows s w source n y begun new in
+    let R : PageEnd → Type 0 = λ y. Shows s w source n y begun new in
     subst P (sym is) (subst Q (sym moves) (subst R (sym same) (shows-ended s w begun failed source n o before bytes none puts new after x zero e p tells)))
 
 -- ---- faults of the output
@@ -131,7 +131,7 @@ cut w begun failed before bytes came puts new after f e is =
     let off : AppendsPrefix begun new (shown w came) × (after ≡ next_count failed) = e.shows came is in
     off.1
 
-tells-ended : {T : Type 0} (s : Setting) (w : Spelling) (begun : Option (List ℕ)) (failed : ℕ) (source : Supply) (n : ℕ) (o : Outcome) (before bytes : List ℕ) (none puts : ℕ) (new : Option (List ℕ)) (after : ℕ) (x : Result T Fault) → none ≡ 0 → Ended T w begun failed before bytes puts new after x → Prints s source n o (Some before) (Some bytes) → TellsWrites o none puts
+tells-ended : {T : Type 0} (s : Setting) (w : Spelling) (begun : Option (List ℕ)) (failed : ℕ) (source : Supply) (n : ℕ) (o : PageEnd) (before bytes : List ℕ) (none puts : ℕ) (new : Option (List ℕ)) (after : ℕ) (x : Result T Fault) → none ≡ 0 → Ended T w begun failed before bytes puts new after x → Prints s source n o (Some before) (Some bytes) → TellsWrites o none puts
     → TellsWrites (reported_shown o (is_err x)) failed after
 tells-ended s w begun failed source n outcomes.Done before bytes none puts new after (Ok k) zero e p tells = went w begun failed before bytes (pages_of s source n) puts new after k e p.out
 tells-ended s w begun failed source n outcomes.Done before bytes none puts new after (Err f) zero e p tells = cut w begun failed before bytes (pages_of s source n) puts new after f e p.out
@@ -148,10 +148,10 @@ tells-ended s w begun failed source n outcomes.WriteFault before bytes none puts
     absurd (next_some (sym (ap next_count zero) ∙ sym tells ∙ ok))
 tells-ended s w begun failed source n outcomes.WriteFault before bytes none puts new after (Err f) zero e p tells = cut w begun failed before bytes p.0 puts new after f e p.3
 
-pub tells-as : {T : Type 0} (s : Setting) (w : Spelling) (begun : Option (List ℕ)) (failed : ℕ) (source : Supply) (n : ℕ) (o said : Outcome) (before bytes : List ℕ) (none puts : ℕ) (new : Option (List ℕ)) (after : ℕ) (x : Result T Fault) → said ≡ reported_shown o (is_err x) → none ≡ 0 → Ended T w begun failed before bytes puts new after x
+pub tells-as : {T : Type 0} (s : Setting) (w : Spelling) (begun : Option (List ℕ)) (failed : ℕ) (source : Supply) (n : ℕ) (o said : PageEnd) (before bytes : List ℕ) (none puts : ℕ) (new : Option (List ℕ)) (after : ℕ) (x : Result T Fault) → said ≡ reported_shown o (is_err x) → none ≡ 0 → Ended T w begun failed before bytes puts new after x
     → Prints s source n o (Some before) (Some bytes) → TellsWrites o none puts → TellsWrites said failed after
 tells-as s w begun failed source n o said before bytes none puts new after x same zero e p tells =
-    subst (λ (y : Outcome). TellsWrites y failed after) (sym same) (tells-ended s w begun failed source n o before bytes none puts new after x zero e p tells)
+    subst (λ (y : PageEnd). TellsWrites y failed after) (sym same) (tells-ended s w begun failed source n o before bytes none puts new after x zero e p tells)
 
 -- ---- the sinks that show bytes
 
@@ -206,7 +206,7 @@ text_of table escapes pages bytes is =
     let lines = converted-lines table escapes pages in
     subst P (sym is) lines.text
 
-pub reached : (s : Setting) (table : Table) (escapes : Bool) (source : Supply) (n : ℕ) (o : Outcome) (bytes : List ℕ)
+pub reached : (s : Setting) (table : Table) (escapes : Bool) (source : Supply) (n : ℕ) (o : PageEnd) (bytes : List ℕ)
     → is_whole o ≡ true → Shows s (Utf8 (Fixed table) escapes) source n o (Some []) (Some bytes) → IsText escapes bytes
 reached s table escapes source n outcomes.Done bytes all shows = text_of table escapes (pages_of s source n) bytes shows.out
 reached s table escapes source n (outcomes.Limit which at) bytes all shows = text_of table escapes (pages_of s source n) bytes shows.out

@@ -16,8 +16,8 @@ use Rattle.nr_machine.specs.declared.outcome.Outcome as machine
 use Rattle.nr_machine.specs.declared.outcome.Outcome.TheVariants as machines
 use Rattle.document_stages.specs.Joined.{preceded}
 use Rattle.document_stages.specs.Pulling.{broken_off}
-use Rattle.document_printing.specs.declared.setup.Outcome.{Outcome}
-use Rattle.document_printing.specs.declared.setup.Outcome.TheVariants as outcomes
+use Rattle.document_printing.specs.declared.setup.PageEnd.{PageEnd}
+use Rattle.document_printing.specs.declared.setup.PageEnd.TheVariants as outcomes
 use Rattle.document_printing.specs.declared.setup.Setup.{Setup}
 use Rattle.document_reader.specs.declared.page.Stages.{Stages}
 use Rattle.document_reader.specs.Page.{plain_so_far, plain_supply}
@@ -63,21 +63,21 @@ pages_of s source n = text (state_of s source n).pages
 -- ---- what goes out
 
 -- The machine makes so many moves, as many as are allowed and as the bytes that it took allow at most, and ends so.
-pub record Ran (s : Setting) (source : Supply) (n : ℕ) (ended : machine.Outcome) : Type 0 where
+pub record Ran (s : Setting) (source : Supply) (n : ℕ) (ended : machine.PageEnd) : Type 0 where
   pub runs : Runs n (start s.limits s.options source)
   pub allowed : n ≤ s.limits.moves
   pub ends : Ends s.limits.moves n (state_of s source n) ended
   pub bound : n ≤ moves_a_byte s.limits * ((state_of s source n).coming.taken + 1)
 
 -- and what it printed until then went out
-pub record GoesOut (s : Setting) (source : Supply) (n : ℕ) (ended : machine.Outcome) (held new : Option (List ℕ))
+pub record GoesOut (s : Setting) (source : Supply) (n : ℕ) (ended : machine.PageEnd) (held new : Option (List ℕ))
     : Type 0 where
   pub ran : Ran s source n ended
   pub out : Appends held new (pages_of s source n)
 
 -- HOW A DOCUMENT ENDS. Where the output fails, a prefix of the pages that stand after one move more went out; where the page
 -- breaks off, or tables have no room, the pages until then did.
-abbrev pub Prints : Setting → Supply → ℕ → Outcome → Option (List ℕ) → Option (List ℕ) → Type 0
+abbrev pub Prints : Setting → Supply → ℕ → PageEnd → Option (List ℕ) → Option (List ℕ) → Type 0
 Prints s source n outcomes.Done held new = GoesOut s source n machines.Done held new
 Prints s source n (outcomes.Limit which at) held new = GoesOut s source n (machines.Limit which at) held new
 Prints s source n outcomes.NoRoom held new = (s.sets ≡ true) × Appends held new (pages_of s source n)
@@ -86,7 +86,7 @@ Prints s source n outcomes.TooLong held new = Appends held new (pages_of s sourc
 Prints s source n outcomes.WriteFault held new = AppendsPrefix held new (pages_of s source (suc n))
 
 -- One put failed where that is reported, and none where all went out, by the counts of those that did.
-abbrev pub TellsWrites : Outcome → ℕ → ℕ → Type 0
+abbrev pub TellsWrites : PageEnd → ℕ → ℕ → Type 0
 TellsWrites outcomes.WriteFault before after = after ≡ next_count before
 TellsWrites outcomes.ReadFault before after = Unit {0}
 TellsWrites outcomes.TooLong before after = Unit {0}
@@ -106,7 +106,7 @@ setting_of setup tables limits = record {
 }
 
 -- how the formatter's end is reported of a page whose tables have no room, or have
-abbrev pub reported : machine.Outcome → Bool → Outcome
+abbrev pub reported : machine.PageEnd → Bool → PageEnd
 reported machines.Done full = outcomes.Done
 reported (machines.Limit which at) full = outcomes.Limit which at
 reported (machines.ReadFault at) true = outcomes.NoRoom

@@ -6,13 +6,13 @@ use Rattle.utf8_converter.specs.Lines.{KeepsLines}
 use Rattle.utf8_converter.specs.Text.{IsText}
 use Rattle.document_printing.specs.Document.{Setting, pages_of}
 use Rattle.document_printing.specs.Showing.{Shows, document}
-use Rattle.document_printing.specs.declared.setup.Outcome.{Outcome}
-use Rattle.document_printing.specs.declared.setup.Outcome.TheVariants as outcomes
+use Rattle.document_printing.specs.declared.setup.PageEnd.{PageEnd}
+use Rattle.document_printing.specs.declared.setup.PageEnd.TheVariants as outcomes
 use Rattle.document_printing.specs.declared.showing.PageTable.TheVariants.{Fixed}
 use Rattle.document_printing.specs.declared.showing.Spelling.TheVariants.{Utf8}
 
 -- all that the pages come to went out
-abbrev pub is_whole : Outcome → Bool
+abbrev pub is_whole : PageEnd → Bool
 is_whole outcomes.Done = true
 is_whole (outcomes.Limit which at) = true
 is_whole outcomes.NoRoom = true
@@ -26,7 +26,7 @@ pub record IsPrefixOfText (escapes : Bool) (bytes : List ℕ) : Type 0 where
 -- What reached an empty terminal is a text for one: UTF-8 without control characters but newline, and with backspaces or
 -- escape sequences only as they were asked for.
 abbrev pub ReachesTerminal : Type 0
-ReachesTerminal = (s : Setting) (table : Table) (escapes : Bool) (source : Supply) (n : ℕ) (outcome : Outcome) (bytes : List ℕ)
+ReachesTerminal = (s : Setting) (table : Table) (escapes : Bool) (source : Supply) (n : ℕ) (outcome : PageEnd) (bytes : List ℕ)
     → is_whole outcome ≡ true → Shows s (Utf8 (Fixed table) escapes) source n outcome (Some []) (Some bytes) → IsText escapes bytes
 
 -- where the terminal failed, a prefix of such a text did

@@ -8,8 +8,8 @@ use Rattle.nr_machine.specs.declared.outcome.Outcome.TheVariants as machines
 use Rattle.utf8_converter.specs.Cells as fixed
 use Rattle.utf8_own_sink.specs.Cells as own
 use Rattle.document_printing.specs.Document.{Ran, Setting, pages_of}
-use Rattle.document_printing.specs.declared.setup.Outcome.{Outcome}
-use Rattle.document_printing.specs.declared.setup.Outcome.TheVariants as outcomes
+use Rattle.document_printing.specs.declared.setup.PageEnd.{PageEnd}
+use Rattle.document_printing.specs.declared.setup.PageEnd.TheVariants as outcomes
 use Rattle.document_printing.specs.declared.showing.PageTable.{PageTable}
 use Rattle.document_printing.specs.declared.showing.PageTable.TheVariants.{Fixed, Own}
 use Rattle.document_printing.specs.declared.showing.Spelling.{Spelling}
@@ -30,7 +30,7 @@ abbrev pub document : Setting → Spelling → Supply → ℕ → List ℕ
 document s spelling source n = shown spelling (pages_of s source n)
 
 -- the machine ends so after so many moves, and all that it printed until then is shown
-pub record IsShown (s : Setting) (spelling : Spelling) (source : Supply) (n : ℕ) (ended : machine.Outcome)
+pub record IsShown (s : Setting) (spelling : Spelling) (source : Supply) (n : ℕ) (ended : machine.PageEnd)
     (held new : Option (List ℕ)) : Type 0 where
   pub ran : Ran s source n ended
   pub out : Appends held new (document s spelling source n)
@@ -42,7 +42,7 @@ pub record IsPrefix (s : Setting) (spelling : Spelling) (source : Supply) (n : �
   pub prefix : AppendsPrefix held new (document s spelling source made)
 
 -- HOW IT ENDS for a reader
-abbrev pub Shows : Setting → Spelling → Supply → ℕ → Outcome → Option (List ℕ) → Option (List ℕ) → Type 0
+abbrev pub Shows : Setting → Spelling → Supply → ℕ → PageEnd → Option (List ℕ) → Option (List ℕ) → Type 0
 Shows s spelling source n outcomes.Done held new = IsShown s spelling source n machines.Done held new
 Shows s spelling source n (outcomes.Limit which at) held new =
     IsShown s spelling source n (machines.Limit which at) held new
@@ -52,12 +52,12 @@ Shows s spelling source n outcomes.TooLong held new = AppendsPrefix held new (do
 Shows s spelling source n outcomes.WriteFault held new = IsPrefix s spelling source n held new
 
 -- how an end is reported of a page whose characters did not all go out: that its input failed first
-abbrev pub cut_short : Outcome → Outcome
+abbrev pub cut_short : PageEnd → PageEnd
 cut_short outcomes.ReadFault = outcomes.ReadFault
 cut_short outcomes.TooLong = outcomes.TooLong
 cut_short outcome = outcomes.WriteFault
 
 -- how an end is reported of a page whose characters went out, or the output failed
-abbrev pub reported_shown : Outcome → Bool → Outcome
+abbrev pub reported_shown : PageEnd → Bool → PageEnd
 reported_shown outcome false = outcome
 reported_shown outcome true = cut_short outcome

@@ -19,6 +19,6 @@ pub use document_reader::Stages;
 pub use laws::{lines_stay, reaches_terminal};
 pub use prefix::{Prefixed, has_tables, hold};
 pub use printing::print;
-pub use setup::{Outcome, Report, Setup};
+pub use setup::{PageEnd, Report, Setup};
 pub use showing::{PageTable, Showing, Spelling, print_shown};
 pub use tbl_stage::{PageLimits, Rooms};

@@ -8,7 +8,7 @@ ghost use Rattle.document_printing.specs.Document.{Prints, TellsWrites, setting_
 
 use super::pulling::{Pulled, pull};
 use super::setting::pull_set;
-use super::setup::{Outcome, Report, Setup};
+use super::setup::{PageEnd, Report, Setup};
 use nr_engine::Desk;
 use nr_units::sink::Sink;
 use nr_units::source::Source;
@@ -16,21 +16,21 @@ use tbl_setting::Complaint;
 use tbl_stage::Rooms;
 
 /// How the formatter's end is reported of a page whose tables have no room, or have.
-fn reported(outcome: nr_engine::Outcome, full: bool) -> Outcome
+fn reported(outcome: nr_engine::Outcome, full: bool) -> PageEnd
     ensures { result ≡ specs.reported outcome full }
 {
     match outcome {
-        nr_engine::Outcome::Done => Outcome::Done,
-        nr_engine::Outcome::Limit { which, at } => Outcome::Limit { which, at },
+        nr_engine::Outcome::Done => PageEnd::Done,
+        nr_engine::Outcome::Limit { which, at } => PageEnd::Limit { which, at },
         nr_engine::Outcome::ReadFault { at: _ } => {
             if full {
-                Outcome::NoRoom
+                PageEnd::NoRoom
             } else {
-                Outcome::ReadFault
+                PageEnd::ReadFault
             }
         }
-        nr_engine::Outcome::TooLong => Outcome::TooLong,
-        nr_engine::Outcome::WriteFault => Outcome::WriteFault,
+        nr_engine::Outcome::TooLong => PageEnd::TooLong,
+        nr_engine::Outcome::WriteFault => PageEnd::WriteFault,
     }
 }
 

@@ -21,7 +21,7 @@ pub struct Setup<'a> {
 
 /// How a page ended.
 #[derive(Clone, Copy, Debug, PartialEq, Eq)]
-pub enum Outcome {
+pub enum PageEnd {
     /// All went out.
     Done,
     /// The formatter would pass a limit after so many bytes of what it reads, macros first.
@@ -45,7 +45,7 @@ pub enum Outcome {
 #[derive(Clone, Copy, Debug, PartialEq, Eq)]
 pub struct Report {
     /// How it ended.
-    pub outcome: Outcome,
+    pub outcome: PageEnd,
     /// The line of the page that was read last, from 1 on; 0 where none was read.
     pub line: u64,
     /// How many moves the formatter made.

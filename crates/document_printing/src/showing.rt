@@ -8,7 +8,7 @@ ghost use Rattle.document_printing.specs.Showing as specs;
 ghost use Rattle.document_printing.specs.Showing.{Shows};
 
 use super::printing::print;
-use super::setup::{Outcome, Report, Setup};
+use super::setup::{PageEnd, Report, Setup};
 use nr_engine::Desk;
 use nr_units::sink::Sink;
 use nr_units::source::Source;
@@ -55,13 +55,13 @@ pub struct Showing<'a> {
 }
 
 /// How a page ended whose characters did not all go out. That its input failed is reported first.
-fn cut_short(outcome: Outcome) -> Outcome
+fn cut_short(outcome: PageEnd) -> PageEnd
     ensures { result ≡ specs.cut_short outcome }
 {
     match outcome {
-        Outcome::ReadFault => Outcome::ReadFault,
-        Outcome::TooLong => Outcome::TooLong,
-        _ => Outcome::WriteFault,
+        PageEnd::ReadFault => PageEnd::ReadFault,
+        PageEnd::TooLong => PageEnd::TooLong,
+        _ => PageEnd::WriteFault,
     }
 }
 

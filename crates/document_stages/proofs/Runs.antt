@@ -10,8 +10,8 @@ use Rattle.nr_units.proofs.Prefixes.{AppendsPrefix-append, AppendsPrefix-after}
 use Rattle.document_stages.specs.Pulling.{Came}
 use Rattle.document_stages.specs.Running.{EndsAs, Ends, Flushes, IsBroken, IsCut, Ran, Stands, at_most}
 use Rattle.document_stages.specs.Stepping.{Meaning, Turned, TurnedEnd, after}
-use Rattle.document_stages.specs.declared.running.Outcome.{Outcome}
-use Rattle.document_stages.specs.declared.running.Outcome.TheVariants.{Done, ReadFault, TooLong, WriteFault}
+use Rattle.document_stages.specs.declared.running.RunEnd.{RunEnd}
+use Rattle.document_stages.specs.declared.running.RunEnd.TheVariants.{Done, ReadFault, TooLong, WriteFault}
 
 -- ---- what came of a source
 
@@ -154,7 +154,7 @@ short-of n t e l = omega (arith, e, l)
 
 pub Ran-done : (m now then : Meaning) (wants : ℕ) (a b c : Option Supply) (h k l : Option (List ℕ)) (waits items : List ℕ) (t : ℕ) (fit : Bool)
     → t ≤ 1099511627776 → Stands m now wants a b h k waits t → TurnedEnd b c now then waits items fit → length items ≤ length waits + wants
-    → (outcome : Outcome) → EndsAs Done outcome k l items → Ran m.says m.counts wants a c h l (then.counts false []) outcome
+    → (outcome : RunEnd) → EndsAs Done outcome k l items → Ran m.says m.counts wants a c h l (then.counts false []) outcome
 Ran-done m now then wants a b c h k l waits items t fit small st w few Done ends =
     let all : m.says true st.bytes ≡ st.sent ++ items =
     said-all m now wants a b h k waits t true st ∙ ap (λ (z : List ℕ). st.sent ++ z) w.said in
@@ -213,7 +213,7 @@ cut-off m now wants a b c h k l waits t small st came none went =
 
 Ran-fault : (m now : Meaning) (wants : ℕ) (a b c : Option Supply) (h k l : Option (List ℕ)) (waits : List ℕ) (t : ℕ)
     → t ≤ 1099511627776 → Stands m now wants a b h k waits t → Came b [] c → now.says false [] ≡ []
-    → (outcome : Outcome) → EndsAs (ReadFault t) outcome k l waits → Ran m.says m.counts wants a c h l (now.counts false []) outcome
+    → (outcome : RunEnd) → EndsAs (ReadFault t) outcome k l waits → Ran m.says m.counts wants a c h l (now.counts false []) outcome
 Ran-fault m now wants a b c h k l waits t small st came none Done ends = absurd (let no : ReadFault t ≡ Done = ends.0 in cc)
 Ran-fault m now wants a b c h k l waits t small st came none (ReadFault at) ends =
     let same : ReadFault t ≡ ReadFault at = ends.0 in
@@ -224,14 +224,14 @@ Ran-fault m now wants a b c h k l waits t small st came none WriteFault ends = R
 
 pub Ran-failed : (m now then : Meaning) (wants : ℕ) (a b c : Option Supply) (h k l : Option (List ℕ)) (waits left : List ℕ) (t : ℕ) (e : Fault)
     → t ≤ 1099511627776 → Stands m now wants a b h k waits t → Gives b (Err e) c × (then ≡ now) × (left ≡ waits) → then.says false [] ≡ []
-    → (outcome : Outcome) → EndsAs (ReadFault t) outcome k l left → Ran m.says m.counts wants a c h l (then.counts false []) outcome
+    → (outcome : RunEnd) → EndsAs (ReadFault t) outcome k l left → Ran m.says m.counts wants a c h l (then.counts false []) outcome
 Ran-failed m now then wants a b c h k l waits left t e small st failed none outcome ends =
     Ran-fault m then wants a b c h k l waits t small (subst (λ (x : Meaning). Stands m x wants a b h k waits t) (sym failed.1) st)
     (Came-fault b c e failed.0) none outcome (subst (λ (w : List ℕ). EndsAs (ReadFault t) outcome k l w) failed.2 ends)
 
 pub Ran-long : (m now : Meaning) (wants : ℕ) (a b : Option Supply) (h k l : Option (List ℕ)) (waits : List ℕ) (t : ℕ)
     → t ≡ 1099511627776 → Stands m now wants a b h k waits t → now.says false [] ≡ []
-    → (outcome : Outcome) → EndsAs TooLong outcome k l waits → Ran m.says m.counts wants a b h l (now.counts false []) outcome
+    → (outcome : RunEnd) → EndsAs TooLong outcome k l waits → Ran m.says m.counts wants a b h l (now.counts false []) outcome
 Ran-long m now wants a b h k l waits t n st none Done ends = absurd (let no : TooLong ≡ Done = ends.0 in cc)
 Ran-long m now wants a b h k l waits t n st none (ReadFault at) ends = absurd (let no : TooLong ≡ ReadFault at = ends.0 in cc)
 Ran-long m now wants a b h k l waits t n st none TooLong ends =
@@ -248,7 +248,7 @@ at_most-more n k m = omega arith
 -- both agree on so many bytes as may come
 pub Ran-counted : (says : Bool → List ℕ → List ℕ) (counts counts' : Bool → List ℕ → ℕ) (wants : ℕ) (first last : Option Supply) (held new : Option (List ℕ))
     (n : ℕ) → ((ends : Bool) → (bytes : List ℕ) → length bytes ≤ 1099511627776 → counts ends bytes ≡ counts' ends bytes)
-    → (outcome : Outcome) → Ran says counts wants first last held new n outcome → Ran says counts' wants first last held new n outcome
+    → (outcome : RunEnd) → Ran says counts wants first last held new n outcome → Ran says counts' wants first last held new n outcome
 Ran-counted says counts counts' wants first last held new n same Done ran = record {
   bytes = ran.bytes;
   came = ran.came;
@@ -285,7 +285,7 @@ Ran-counted says counts counts' wants first last held new n same WriteFault ran 
 
 -- of a stage that is known
 pub Ran-known : (says says' : Bool → List ℕ → List ℕ) (counts counts' : Bool → List ℕ → ℕ) (wants wants' : ℕ) (first last : Option Supply) (held new : Option (List ℕ))
-    (n k : ℕ) (outcome : Outcome) → says ≡ says' → counts ≡ counts' → wants ≡ wants' → k ≡ n
+    (n k : ℕ) (outcome : RunEnd) → says ≡ says' → counts ≡ counts' → wants ≡ wants' → k ≡ n
     → Ran says counts wants first last held new n outcome → Ran says' counts' wants' first last held new k outcome
 Ran-known says says' counts counts' wants wants' first last held new n k outcome p q e same ran =
     subst (λ j. Ran says' counts' wants' first last held new j outcome) (sym same)

@@ -6,8 +6,8 @@ use Rattle.nr_units.specs.Sink.{AppendsPrefix}
 use Rattle.nr_units.specs.Source.{Supply}
 use Rattle.document_stages.specs.Pulling.{Came}
 use Rattle.document_stages.specs.Stepping.{Meaning, after}
-use Rattle.document_stages.specs.declared.running.Outcome.{Outcome}
-use Rattle.document_stages.specs.declared.running.Outcome.TheVariants.{Done, ReadFault, TooLong, WriteFault}
+use Rattle.document_stages.specs.declared.running.RunEnd.{RunEnd}
+use Rattle.document_stages.specs.declared.running.RunEnd.TheVariants.{Done, ReadFault, TooLong, WriteFault}
 
 -- nothing more is to come
 abbrev pub Ends : Option Supply → Option Supply → Type 0
@@ -54,7 +54,7 @@ pub record IsBroken (says : Bool → List ℕ → List ℕ) (counts : Bool → L
 
 -- by how it ended
 abbrev pub Ran : (Bool → List ℕ → List ℕ) → (Bool → List ℕ → ℕ) → ℕ → Option Supply → Option Supply → Option (List ℕ)
-    → Option (List ℕ) → ℕ → Outcome → Type 0
+    → Option (List ℕ) → ℕ → RunEnd → Type 0
 Ran says counts wants first last held new count Done = IsDone says counts wants first last held new count
 Ran says counts wants first last held new count (ReadFault at) = IsCut says counts first last held new count at
 Ran says counts wants first last held new count TooLong = IsCut says counts first last held new count 1099511627776
@@ -62,16 +62,16 @@ Ran says counts wants first last held new count WriteFault = IsBroken says count
 
 -- ---- faults
 
-abbrev pub is_read_fault : Outcome → Bool
+abbrev pub is_read_fault : RunEnd → Bool
 is_read_fault (ReadFault at) = true
 is_read_fault outcome = false
 
-abbrev pub is_write_fault : Outcome → Bool
+abbrev pub is_write_fault : RunEnd → Bool
 is_write_fault WriteFault = true
 is_write_fault outcome = false
 
 -- a read fault is reported where a call of the source failed, and else none failed, but where the sink did
-abbrev pub TellsReads : Outcome → ℕ → ℕ → Type 0
+abbrev pub TellsReads : RunEnd → ℕ → ℕ → Type 0
 TellsReads Done before later = later ≡ before
 TellsReads (ReadFault at) before later = later ≡ next_count before
 TellsReads TooLong before later = later ≡ before
@@ -104,6 +104,6 @@ pub record Stands (m now : Meaning) (wants : ℕ) (first supply : Option Supply)
   pub few : length sent + length waits ≤ wants * taken
 
 -- all that waited went out, or the sink failed
-abbrev pub EndsAs : Outcome → Outcome → Option (List ℕ) → Option (List ℕ) → List ℕ → Type 0
+abbrev pub EndsAs : RunEnd → RunEnd → Option (List ℕ) → Option (List ℕ) → List ℕ → Type 0
 EndsAs wanted WriteFault held new waits = AppendsPrefix held new waits
 EndsAs wanted outcome held new waits = (wanted ≡ outcome) × Appends held new waits

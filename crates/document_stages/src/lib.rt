@@ -21,7 +21,7 @@ pub use counted::{Counted, Lines};
 pub use gathered::{Ahead, Gathered};
 pub use joined::Joined;
 pub use pull::Pull;
-pub use running::{Outcome, run};
+pub use running::{RunEnd, run};
 pub use stage::{LEAST_ROOM, Stage};
 pub use switch::Switch;
 pub use text::Text;

@@ -16,7 +16,7 @@ const TOO_MANY: u64 = 1_099_511_627_776;
 
 /// How a run ended.
 #[derive(Clone, Copy, Debug, PartialEq, Eq)]
-pub enum Outcome {
+pub enum RunEnd {
     /// All was turned and went out.
     Done,
     /// The input failed after so many bytes.
@@ -60,14 +60,14 @@ fn make_room<W: Sink>(out: &mut SliceVec<'_, u8>, output: &mut W, wants: usize) 
 }
 
 /// The rest goes out, and the run has ended so.
-fn ended<W: Sink>(out: &mut SliceVec<'_, u8>, output: &mut W, outcome: Outcome) -> Outcome
+fn ended<W: Sink>(out: &mut SliceVec<'_, u8>, output: &mut W, outcome: RunEnd) -> RunEnd
     ensures ends { specs.EndsAs outcome result (W.held output.old) (W.held output.new) out.old.items }
     ensures failures { specs.is_write_fault outcome ≡ false
         → W.failures output.new ≡ put_counted_if (specs.is_write_fault result) (W.failures output.old) }
 {
     match put_waiting(out, output) {
         Ok(()) => outcome,
-        Err(Fault) => Outcome::WriteFault,
+        Err(Fault) => RunEnd::WriteFault,
     }
 }
 
@@ -85,7 +85,7 @@ pub fn run<R: Source, W: Sink, T: Stage>(
     input: &mut R,
     output: &mut W,
     buffer: &mut [u8],
-) -> Outcome
+) -> RunEnd
     requires fits { T.fits stage.old ≡ fits_always }
     requires room { T.wants stage.old ≤ length buffer.old }
     ensures ran { specs.Ran (T.says stage.old) (T.counts stage.old) (T.wants stage.old) (R.supply input.old)
@@ -101,14 +101,14 @@ pub fn run<R: Source, W: Sink, T: Stage>(
     while taken < TOO_MANY {
         match make_room(&mut out, output, wants) {
             Ok(()) => {}
-            Err(Fault) => return Outcome::WriteFault,
+            Err(Fault) => return RunEnd::WriteFault,
         }
         match make_step(stage, input, &mut out, TOO_MANY - taken) {
             Ok(Step::Took(count)) => taken += count,
-            Ok(Step::End) => return ended(&mut out, output, Outcome::Done),
+            Ok(Step::End) => return ended(&mut out, output, RunEnd::Done),
             Ok(Step::Full) => unreachable!(),
-            Err(Fault) => return ended(&mut out, output, Outcome::ReadFault { at: taken }),
+            Err(Fault) => return ended(&mut out, output, RunEnd::ReadFault { at: taken }),
         }
     }
-    ended(&mut out, output, Outcome::TooLong)
+    ended(&mut out, output, RunEnd::TooLong)
 }

@@ -6,8 +6,8 @@ use Rattle.mdoc_converter.specs.Reading.{converted}
 use Rattle.mdoc_converter.specs.Running as running
 use Rattle.document_stages.specs.Pulling.{Came}
 use Rattle.document_stages.specs.Running as runs
-use Rattle.document_stages.specs.declared.running.Outcome.{Outcome}
-use Rattle.document_stages.specs.declared.running.Outcome.TheVariants as outcomes
+use Rattle.document_stages.specs.declared.running.RunEnd.{RunEnd}
+use Rattle.document_stages.specs.declared.running.RunEnd.TheVariants as outcomes
 use Rattle.filters.specs.Turning.{Begins, IsAll, Turned, is_write_fault, text_left}
 use Rattle.filters.specs.declared.endings.Ending.{Ending}
 use Rattle.mdoc_command.specs.Converting.{ending_of, mdoc}
@@ -25,7 +25,7 @@ came_all (Some all) None bytes comes ends = absurd comes
 came_all (Some all) (Some t) bytes comes ends = sym (comes.0 ∙ ap (λ (l : List ℕ). bytes ++ l) ends ∙ append-nil bytes)
 
 by_outcome : (wrong : Bool) (name : List ℕ) (left : Option (List ℕ)) (last : Option Supply) (held new : Option (List ℕ)) (steps : ℕ)
-    (outcome : Outcome) → running.Ran (reader_supply left) last held new steps outcome
+    (outcome : RunEnd) → running.Ran (reader_supply left) last held new steps outcome
     → Turned mdoc (record { name = name; left = left }) held new (ending_of wrong outcome)
 by_outcome true name left last held new steps outcomes.Done ran = record {
   text = ran.bytes;
@@ -70,21 +70,21 @@ by_outcome wrong name left last held new steps outcomes.WriteFault ran = record 
 }
 
 pub turned : (wrong : Bool) (name : List ℕ) (left : Option (List ℕ)) (first last : Option Supply) (held new : Option (List ℕ)) (steps : ℕ)
-    (outcome : Outcome) (ending : Ending) → first ≡ reader_supply left → running.Ran first last held new steps outcome
+    (outcome : RunEnd) (ending : Ending) → first ≡ reader_supply left → running.Ran first last held new steps outcome
     → ending ≡ ending_of wrong outcome → Turned mdoc (record { name = name; left = left }) held new ending
 turned wrong name left first last held new steps outcome ending supply ran ended =
     rw ended (by_outcome wrong name left last held new steps outcome
     (subst (λ (s : Option Supply). running.Ran s last held new steps outcome) supply ran))
 
 -- each failed call was counted
-same_fault : (wrong : Bool) (outcome : Outcome) → runs.is_write_fault outcome ≡ is_write_fault (ending_of wrong outcome)
+same_fault : (wrong : Bool) (outcome : RunEnd) → runs.is_write_fault outcome ≡ is_write_fault (ending_of wrong outcome)
 same_fault true outcomes.Done = refl
 same_fault false outcomes.Done = refl
 same_fault wrong (outcomes.ReadFault at) = refl
 same_fault wrong outcomes.TooLong = refl
 same_fault wrong outcomes.WriteFault = refl
 
-pub failures : (wrong : Bool) (outcome : Outcome) (ending : Ending) (old new : SinkFailures) → ending ≡ ending_of wrong outcome
+pub failures : (wrong : Bool) (outcome : RunEnd) (ending : Ending) (old new : SinkFailures) → ending ≡ ending_of wrong outcome
     → new ≡ put_counted_if (runs.is_write_fault outcome) old → new ≡ put_counted_if (is_write_fault ending) old
 failures wrong outcome ending old new ended counted =
     rw ended (counted ∙ ap (λ (b : Bool). put_counted_if b old) (same_fault wrong outcome))

@@ -1,8 +1,8 @@
 -- What mdoc makes of texts, and what its words ask for.
 use Rattle.std.specs.Prelude.{ℕ, List, [], ◌∷◌, Bool, true, false, if◌then◌else◌, None, codes}
 use Rattle.mdoc_converter.specs.Reading as reading
-use Rattle.document_stages.specs.declared.running.Outcome.{Outcome}
-use Rattle.document_stages.specs.declared.running.Outcome.TheVariants as outcomes
+use Rattle.document_stages.specs.declared.running.RunEnd.{RunEnd}
+use Rattle.document_stages.specs.declared.running.RunEnd.TheVariants as outcomes
 use Rattle.filters.specs.Arguments.{is_option}
 use Rattle.filters.specs.Program.{Job, IsBad, TurnsTexts}
 use Rattle.filters.specs.Turning.{Filter}
@@ -27,7 +27,7 @@ job_of (word ∷ words) =
     if is_option word then IsBad (codes "unknown option ") word else TurnsTexts mdoc (word ∷ words)
 
 -- how a text ended, complained of or not
-abbrev pub ending_of : Bool → Outcome → Ending
+abbrev pub ending_of : Bool → RunEnd → Ending
 ending_of true outcomes.Done = Complained
 ending_of false outcomes.Done = Done
 ending_of wrong (outcomes.ReadFault at) = ReadFault None at

@@ -8,7 +8,7 @@ use super::telling::{Complaint, MOST_COMPLAINTS, room_for};
 use super::watched::Watched;
 use super::watching::Watch;
 use filters::{BUFFER_SIZE, Ending, Turns};
-use mdoc_converter::{Block, Outcome, convert};
+use mdoc_converter::{Block, RunEnd, convert};
 use nr_units::buffered::Buffered;
 use nr_units::sink::Sink;
 use std::alloc::{AllocError, Global};
@@ -80,14 +80,14 @@ impl Turns for Rooms {
 }
 
 /// How a text ended, in which something was wrong or not.
-fn ended<'a>(outcome: Outcome, wrong: bool) -> Ending<'a>
+fn ended<'a>(outcome: RunEnd, wrong: bool) -> Ending<'a>
     ensures { result ≡ ending_of wrong outcome }
 {
     match outcome {
-        Outcome::Done if wrong => Ending::Complained,
-        Outcome::Done => Ending::Done,
-        Outcome::TooLong => Ending::TooLong(None),
-        Outcome::ReadFault { at } => Ending::ReadFault(None, at),
-        Outcome::WriteFault => Ending::WriteFault,
+        RunEnd::Done if wrong => Ending::Complained,
+        RunEnd::Done => Ending::Done,
+        RunEnd::TooLong => Ending::TooLong(None),
+        RunEnd::ReadFault { at } => Ending::ReadFault(None, at),
+        RunEnd::WriteFault => Ending::WriteFault,
     }
 }

@@ -40,7 +40,7 @@ mod texts;
 mod word_laws;
 mod words;
 
-pub use document_stages::Outcome;
+pub use document_stages::RunEnd;
 pub use lay::{is_library, is_standard, is_version};
 pub use macros::is_macro;
 pub use page::Block;

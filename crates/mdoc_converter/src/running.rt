@@ -8,7 +8,7 @@ ghost use Rattle.mdoc_converter.specs.Staged.{said, steps_said};
 
 use super::page::Block;
 use super::staged::Turner;
-use document_stages::{Outcome, run};
+use document_stages::{RunEnd, run};
 use nr_units::sink::Sink;
 use nr_units::source::Source;
 
@@ -36,7 +36,7 @@ pub fn convert<R: Source, W: Sink>(
     blocks: &mut [Block],
     buffer: &mut [u8],
     steps: &mut u64,
-) -> Outcome
+) -> RunEnd
     requires blocks { 64 ≤ length blocks.old }
     requires buffer { 73984 ≤ length buffer.old }
     ensures ran { Ran (R.supply input.old) (R.supply input.new) (W.held output.old) (W.held output.new)

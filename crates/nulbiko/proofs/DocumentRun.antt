@@ -12,25 +12,25 @@ use Rattle.nr_options.specs.Limits as limits
 use Rattle.nr_options.specs.declared.options.Options.{Options}
 use Rattle.document_stages.specs.Pulling.{whole}
 use Rattle.document_printing.specs.Document.{Prints, Setting, pages_of, source_of}
-use Rattle.document_printing.specs.declared.setup.Outcome.{Outcome}
-use Rattle.document_printing.specs.declared.setup.Outcome.TheVariants.{Done, Limit, NoRoom, ReadFault, TooLong, WriteFault}
+use Rattle.document_printing.specs.declared.setup.PageEnd.{PageEnd}
+use Rattle.document_printing.specs.declared.setup.PageEnd.TheVariants.{Done, Limit, NoRoom, ReadFault, TooLong, WriteFault}
 use Rattle.nulbiko.specs.Printed.{IsPrefix, IsOut, IsPrinted, cut_off, dropped_of, outcome_of}
 use Rattle.nulbiko.specs.declared.printed.Form.{Form}
 use Rattle.nulbiko.specs.declared.printed.Form.TheVariants.{Bytes, Characters}
 
 -- what went out is known
-abbrev pub IsKnown : Outcome → Type 0
+abbrev pub IsKnown : PageEnd → Type 0
 IsKnown ReadFault = ⊥
 IsKnown TooLong = ⊥
 IsKnown outcome = Unit {0}
 
 -- these pages came after what was held
-pub record Came (s : Setting) (source : Supply) (n : ℕ) (o : Outcome) (before : List ℕ) (held : Option (List ℕ)) : Type 0 where
+pub record Came (s : Setting) (source : Supply) (n : ℕ) (o : PageEnd) (before : List ℕ) (held : Option (List ℕ)) : Type 0 where
   pub pages : List ℕ
   pub prints : Prints s source n o (Some []) (Some pages)
   pub is : IsKnown o → held ≡ Some (before ++ pages)
 
-pub came : (s : Setting) (source : Supply) (n : ℕ) (o : Outcome) (before : List ℕ) (held : Option (List ℕ))
+pub came : (s : Setting) (source : Supply) (n : ℕ) (o : PageEnd) (before : List ℕ) (held : Option (List ℕ))
     → Prints s source n o (Some before) held → Came s source n o before held
 came s source n Done before None p = absurd p.out
 came s source n Done before (Some ys) p =
@@ -49,7 +49,7 @@ came s source n WriteFault before (Some ys) p = record { pages = p.0; prints = (
 -- ---- as bytes
 
 -- all pages are a prefix of themselves
-pub plain_out : (o : Outcome) (bytes : List ℕ) → IsOut o Bytes bytes bytes 0
+pub plain_out : (o : PageEnd) (bytes : List ℕ) → IsOut o Bytes bytes bytes 0
 plain_out Done bytes = (refl, refl)
 plain_out (Limit which at) bytes = (refl, refl)
 plain_out NoRoom bytes = (refl, refl)
@@ -72,7 +72,7 @@ prefix_of : (t : Table) (e : Bool) (failed failed' : ℕ) (pages bytes : List �
 prefix_of t e failed failed' pages bytes x f =
     (f.went_out.1, f.went_out.2 ∙ ap (λ (z : List ℕ). z ++ f.went_out.1) (sym f.went_out.3))
 
-shown_at : (t : Table) (e : Bool) (failed failed' : ℕ) (o : Outcome) (pages bytes : List ℕ) (r : Result ℕ Fault)
+shown_at : (t : Table) (e : Bool) (failed failed' : ℕ) (o : PageEnd) (pages bytes : List ℕ) (r : Result ℕ Fault)
     → (IsKnown o → Finishes (making t e (Some []) failed) pages (Some bytes) failed' r)
     → IsOut (outcome_of o r) (Characters t e) pages bytes (dropped_of r)
 shown_at t e failed failed' Done pages bytes (Ok n) f = all_of t e failed failed' pages bytes n (f tt)
@@ -89,7 +89,7 @@ shown_at t e failed failed' ReadFault pages bytes (Err x) f = tt
 shown_at t e failed failed' TooLong pages bytes (Err x) f = tt
 shown_at t e failed failed' WriteFault pages bytes (Err x) f = prefix_of t e failed failed' pages bytes x (f tt)
 
-pub shown_out : (t : Table) (e : Bool) (begun new : Option (List ℕ)) (failed failed' : ℕ) (o : Outcome) (pages bytes : List ℕ) (r : Result ℕ Fault)
+pub shown_out : (t : Table) (e : Bool) (begun new : Option (List ℕ)) (failed failed' : ℕ) (o : PageEnd) (pages bytes : List ℕ) (r : Result ℕ Fault)
     → begun ≡ Some [] → new ≡ Some bytes
     → (IsKnown o → Finishes (making t e begun failed) pages new failed' r)
     → IsOut (outcome_of o r) (Characters t e) pages bytes (dropped_of r)
@@ -100,16 +100,16 @@ shown_out t e begun new failed failed' o pages bytes r before after f =
 
 -- ---- how it was printed
 
-reported_of : (o : Outcome) (r : Result ℕ Fault) → (outcome_of o r ≡ o) ⊎ (outcome_of o r ≡ cut_off o)
+reported_of : (o : PageEnd) (r : Result ℕ Fault) → (outcome_of o r ≡ o) ⊎ (outcome_of o r ≡ cut_off o)
 reported_of o (Ok n) = inl refl
 reported_of o (Err x) = inr refl
 
-pub is_printed : (s : Setting) (form : Form) (page bytes pages : List ℕ) (n m d : ℕ) (o p : Outcome) (r : Result ℕ Fault)
+pub is_printed : (s : Setting) (form : Form) (page bytes pages : List ℕ) (n m d : ℕ) (o p : PageEnd) (r : Result ℕ Fault)
     → Prints s (source_of s (whole page)) n o (Some []) (Some pages) → IsOut (outcome_of o r) form pages bytes (dropped_of r)
     → m ≡ n → p ≡ outcome_of o r → d ≡ dropped_of r → IsPrinted s form page bytes m p d
 is_printed s form page bytes pages n m d o p r prints out moves outcome dropped =
     subst (λ (x : ℕ). IsPrinted s form page bytes m p x) (sym dropped)
-    (subst (λ (y : Outcome). IsPrinted s form page bytes m y (dropped_of r)) (sym outcome)
+    (subst (λ (y : PageEnd). IsPrinted s form page bytes m y (dropped_of r)) (sym outcome)
     (subst (λ (z : ℕ). IsPrinted s form page bytes z (outcome_of o r) (dropped_of r)) (sym moves)
     (record { ended = o; pages = pages; prints = prints; reported = reported_of o r; out = out })))
 
@@ -117,7 +117,7 @@ some_is : (xs ys : List ℕ) → Some xs ≡ Some ys → xs ≡ ys
 some_is xs ys e = cc
 
 -- where the pages went out as they are
-pub plain_printed : (s : Setting) (form : Form) (page bytes : List ℕ) (old new : Option (List ℕ)) (n m d : ℕ) (o p : Outcome)
+pub plain_printed : (s : Setting) (form : Form) (page bytes : List ℕ) (old new : Option (List ℕ)) (n m d : ℕ) (o p : PageEnd)
     → form ≡ Bytes → Prints s (source_of s (whole page)) n o old new → old ≡ Some [] → new ≡ Some bytes
     → m ≡ n → p ≡ o → d ≡ 0 → IsPrinted s form page bytes m p d
 plain_printed s form page bytes old new n m d o p is prints before after moves outcome dropped =
@@ -129,7 +129,7 @@ plain_printed s form page bytes old new n m d o p is prints before after moves o
 
 -- where they went out through a sink that shows them, which held these bytes first and those last
 pub shown_printed : (s : Setting) (page : List ℕ) (t : Table) (e : Bool) (begun new : Option (List ℕ)) (failed failed' : ℕ) (first last bytes : List ℕ)
-    (n m d : ℕ) (o p : Outcome) (r : Result ℕ Fault)
+    (n m d : ℕ) (o p : PageEnd) (r : Result ℕ Fault)
     → first ≡ made_of (making t e begun failed) → Prints s (source_of s (whole page)) n o (Some first) (Some last)
     → ((k : Making) (xs : List ℕ) → last ≡ made_of k ++ xs → Finishes k xs new failed' r)
     → begun ≡ Some [] → new ≡ Some bytes → m ≡ n → p ≡ outcome_of o r → d ≡ dropped_of r
@@ -154,7 +154,7 @@ setting macros mdoc sets characters tables bounds options = record {
   options = options;
 }
 
-pub set_printed : (macros page bytes : List ℕ) (mdoc a a' : Bool) (t t' : Target) (b : Bounds) (l l' : limits.Bounds) (options : Options) (f f' : Form) (n d d' : ℕ) (o : Outcome)
+pub set_printed : (macros page bytes : List ℕ) (mdoc a a' : Bool) (t t' : Target) (b : Bounds) (l l' : limits.Bounds) (options : Options) (f f' : Form) (n d d' : ℕ) (o : PageEnd)
     → IsPrinted (setting macros mdoc a t b l options) f page bytes n o d → a ≡ a' → t ≡ t' → l ≡ l' → f ≡ f' → d' ≡ d
     → IsPrinted (setting macros mdoc a' t' b l' options) f' page bytes n o d'
 set_printed macros page bytes mdoc a a' t t' b l l' options f f' n d d' o printed sets characters bounds form dropped =

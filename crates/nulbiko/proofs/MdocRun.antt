@@ -3,12 +3,12 @@ use Rattle.std.proofs.Common.{◌≡◌, ℕ, List, false, Option, refl, subst, 
 use Rattle.nr_units.specs.Failures.{next_count}
 use Rattle.nr_units.specs.Source.{Supply}
 use Rattle.document_stages.specs.Running.{TellsReads, is_read_fault}
-use Rattle.document_stages.specs.declared.running.Outcome.{Outcome}
+use Rattle.document_stages.specs.declared.running.RunEnd.{RunEnd}
 use Rattle.mdoc_converter.specs.Running.{Ran}
-use Rattle.document_stages.specs.declared.running.Outcome.TheVariants.{Done, ReadFault, TooLong, WriteFault}
+use Rattle.document_stages.specs.declared.running.RunEnd.TheVariants.{Done, ReadFault, TooLong, WriteFault}
 
 -- of the same bytes before and after
-pub carried : (q q' left : Option Supply) (old old' new new' : Option (List ℕ)) (steps : ℕ) (o : Outcome)
+pub carried : (q q' left : Option Supply) (old old' new new' : Option (List ℕ)) (steps : ℕ) (o : RunEnd)
     → Ran q left old new steps o → q ≡ q' → old ≡ old' → new ≡ new' → Ran q' left old' new' steps o
 carried q q' left old old' new new' steps o ran same before after =
     subst (λ z. Ran q' left old' z steps o) after
@@ -16,7 +16,7 @@ carried q q' left old old' new new' steps o ran same before after =
     (subst (λ x. Ran x left old new steps o) same ran))
 
 -- where no call of the source failed, none is reported
-pub unread : (o : Outcome) → TellsReads o 0 0 → is_read_fault o ≡ false
+pub unread : (o : RunEnd) → TellsReads o 0 0 → is_read_fault o ≡ false
 unfolding next_count
 unread Done e = refl
 unread (ReadFault at) e = absurd (omega (arith, e))

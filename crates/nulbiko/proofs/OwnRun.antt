@@ -18,7 +18,7 @@ use Rattle.document_reader.specs.Page.{IsShort, man_of, own_of, plain_of}
 use Rattle.document_reader.specs.declared.page.Stages.{Stages}
 use Rattle.document_printing.specs.Document.{Setting, setting_of, source_of}
 use Rattle.document_printing.specs.Showing.{Shows}
-use Rattle.document_printing.specs.declared.setup.Outcome.{Outcome}
+use Rattle.document_printing.specs.declared.setup.PageEnd.{PageEnd}
 use Rattle.document_printing.specs.declared.setup.Setup.{Setup}
 use Rattle.document_printing.specs.declared.showing.PageTable.{PageTable}
 use Rattle.document_printing.specs.declared.showing.PageTable.TheVariants.{Fixed, Own}
@@ -30,17 +30,17 @@ use Rattle.nulbiko.specs.declared.document.DocumentSetup.{DocumentSetup}
 use Rattle.nulbiko.specs.declared.reported.Report.{Report}
 
 -- where the output was empty, and has these bytes
-pub shown-as : (s : Setting) (spelling : Spelling) (source : Supply) (n n' : ℕ) (o o' : Outcome) (held new : Option (List ℕ)) (bytes : List ℕ)
+pub shown-as : (s : Setting) (spelling : Spelling) (source : Supply) (n n' : ℕ) (o o' : PageEnd) (held new : Option (List ℕ)) (bytes : List ℕ)
     → Shows s spelling source n o held new → held ≡ Some [] → new ≡ Some bytes → n' ≡ n → o' ≡ o
     → Shows s spelling source n' o' (Some []) (Some bytes)
 shown-as s spelling source n n' o o' held new bytes shows before after moves outcome =
     subst (λ (z : ℕ). Shows s spelling source z o' (Some []) (Some bytes)) (sym moves)
-    (subst (λ (z : Outcome). Shows s spelling source n z (Some []) (Some bytes)) (sym outcome)
+    (subst (λ (z : PageEnd). Shows s spelling source n z (Some []) (Some bytes)) (sym outcome)
     (subst (λ (z : Option (List ℕ)). Shows s spelling source n o (Some []) z) after
     (subst (λ (z : Option (List ℕ)). Shows s spelling source n o z new) before shows)))
 
 -- of a page in the bytes of its table
-pub shown-coded : (setup setup' : Setup) (t : Bounds) (l : limits.Bounds) (spelling spelling' : Spelling) (q : Supply) (n n' : ℕ) (o o' : Outcome)
+pub shown-coded : (setup setup' : Setup) (t : Bounds) (l : limits.Bounds) (spelling spelling' : Spelling) (q : Supply) (n n' : ℕ) (o o' : PageEnd)
     (held new : Option (List ℕ)) (bytes : List ℕ)
     → (IsShort q.bytes (man_of setup'.stages.mdoc q.bytes) → Shows (setting_of setup' t l) spelling' (source_of (setting_of setup' t l) q) n o held new)
     → setup' ≡ coded_setup setup → spelling' ≡ spelling → length q.bytes < 1099511627776 → held ≡ Some [] → new ≡ Some bytes → n' ≡ n → o' ≡ o
@@ -64,7 +64,7 @@ coded-bytes macros sets t l options = record {
 }
 
 set-bytes : (macros : List ℕ) (own : Stages → List ℕ) (stages stages' : Stages) (a a' : Bool) (t : Bounds) (l l' : limits.Bounds) (options : Options)
-    (table : PageTable) (e e' : Bool) (n : ℕ) (o : Outcome) (bytes : List ℕ)
+    (table : PageTable) (e e' : Bool) (n : ℕ) (o : PageEnd) (bytes : List ℕ)
     → Shows (coded-bytes macros a t l options) (Utf8 table e) (source_of (coded-bytes macros a t l options) (whole (own stages))) n o (Some []) (Some bytes)
     → stages ≡ stages' → a ≡ a' → l ≡ l' → e ≡ e'
     → Shows (coded-bytes macros a' t l' options) (Utf8 table e') (source_of (coded-bytes macros a' t l' options) (whole (own stages'))) n o (Some []) (Some bytes)
@@ -86,7 +86,7 @@ plain-setting macros stages sets target t l options = record {
 }
 
 pub set-own : (macros text : List ℕ) (stages stages' : Stages) (a a' : Bool) (target target' : Target) (t : Bounds) (l l' : limits.Bounds) (options : Options)
-    (table : PageTable) (e : Bool) (n : ℕ) (o : Outcome) (bytes : List ℕ)
+    (table : PageTable) (e : Bool) (n : ℕ) (o : PageEnd) (bytes : List ℕ)
     → ShowsOwn (plain-setting macros stages a target t l options) table e text bytes n o
     → stages ≡ stages' → a ≡ a' → l ≡ l' → ShowsOwn (plain-setting macros stages' a' target' t l' options) table e text bytes n o
 set-own macros text stages stages' a a' target target' t l l' options (Fixed f) e n o bytes shows same sets bounds = absurd shows

@@ -10,8 +10,8 @@ use Rattle.tbl_setting.specs.Drawing.{signs_of}
 use Rattle.tbl_setting.specs.Running.{Ran, is_read_fault}
 use Rattle.tbl_reader.specs.Running.{TellsReads}
 use Rattle.tbl_reader.specs.declared.complaint.Complaint.{Complaint}
-use Rattle.tbl_reader.specs.declared.running.Outcome.{Outcome}
-use Rattle.tbl_reader.specs.declared.running.Outcome.TheVariants.{Done, ReadFault, TooLong, WriteFault}
+use Rattle.tbl_reader.specs.declared.running.ReadEnd.{ReadEnd}
+use Rattle.tbl_reader.specs.declared.running.ReadEnd.TheVariants.{Done, ReadFault, TooLong, WriteFault}
 use Rattle.nulbiko.specs.Tbl.{bounds}
 
 -- bounds are those of a line, part by part
@@ -27,7 +27,7 @@ bounds_made b table line signs formats row cells fits =
     ∙ ap (λ (w : Bool). made of.signs of.limits.formats of.limits.row of.cells w) fits
 
 -- by the same bounds, with the same bytes before and after
-pub carried : (b b' : Bounds) (q q' left : Option Supply) (old old' new new' : Option (List ℕ)) (kept : Items Complaint) (missed uneven : Bool) (o : Outcome)
+pub carried : (b b' : Bounds) (q q' left : Option Supply) (old old' new new' : Option (List ℕ)) (kept : Items Complaint) (missed uneven : Bool) (o : ReadEnd)
     → Ran b q left old new kept missed uneven o → b ≡ b' → q ≡ q' → old ≡ old' → new ≡ new' → Ran b' q' left old' new' kept missed uneven o
 carried b b' q q' left old old' new new' kept missed uneven o ran bounds same before after =
     subst (λ z. Ran b' q' left old' z kept missed uneven o) after
@@ -36,7 +36,7 @@ carried b b' q q' left old old' new new' kept missed uneven o ran bounds same be
     (subst (λ c. Ran c q left old new kept missed uneven o) bounds ran)))
 
 -- where no call of the source failed, none is reported
-pub unread : (o : Outcome) → TellsReads o 0 0 → is_read_fault o ≡ false
+pub unread : (o : ReadEnd) → TellsReads o 0 0 → is_read_fault o ≡ false
 unfolding next_count
 unread Done e = refl
 unread (ReadFault at) e = absurd (omega (arith, e))

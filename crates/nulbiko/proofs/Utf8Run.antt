@@ -7,14 +7,14 @@ use Rattle.utf8_characters.specs.declared.table.Table.{Table}
 use Rattle.utf8_converter.specs.Choosing.{Chooses, IsBest, looked_at}
 use Rattle.document_stages.specs.Running.{TellsReads, is_read_fault}
 use Rattle.utf8_converter.specs.Running.{Ran}
-use Rattle.document_stages.specs.declared.running.Outcome.{Outcome}
-use Rattle.document_stages.specs.declared.running.Outcome.TheVariants.{Done, ReadFault, TooLong, WriteFault}
+use Rattle.document_stages.specs.declared.running.RunEnd.{RunEnd}
+use Rattle.document_stages.specs.declared.running.RunEnd.TheVariants.{Done, ReadFault, TooLong, WriteFault}
 use Rattle.nulbiko.specs.Tables.{number_of}
 use Rattle.nulbiko.specs.Reported.{whole_text}
 use Rattle.nulbiko.specs.Utf8.{ChoosesNumber}
 
 -- of the same bytes before and after
-pub carried : (t : Table) (e : Bool) (q q' left : Option Supply) (old old' new new' : Option (List ℕ)) (strays : ℕ) (o : Outcome)
+pub carried : (t : Table) (e : Bool) (q q' left : Option Supply) (old old' new new' : Option (List ℕ)) (strays : ℕ) (o : RunEnd)
     → Ran t e q left old new strays o → q ≡ q' → old ≡ old' → new ≡ new' → Ran t e q' left old' new' strays o
 carried t e q q' left old old' new new' strays o ran same before after =
     subst (λ z. Ran t e q' left old' z strays o) after
@@ -22,7 +22,7 @@ carried t e q q' left old old' new new' strays o ran same before after =
     (subst (λ x. Ran t e x left old new strays o) same ran))
 
 -- where no call of the source failed, none is reported
-pub unread : (o : Outcome) → TellsReads o 0 0 → is_read_fault o ≡ false
+pub unread : (o : RunEnd) → TellsReads o 0 0 → is_read_fault o ≡ false
 unfolding next_count
 unread Done e = refl
 unread (ReadFault at) e = absurd (omega (arith, e))

@@ -12,7 +12,7 @@ use Rattle.utf8_converter.specs.Choosing.{chosen, looked_at}
 use Rattle.nr_options.specs.Limits.{AreLimits}
 use Rattle.nr_options.specs.declared.options.Options.{Options}
 use Rattle.document_printing.specs.Document.{Setting}
-use Rattle.document_printing.specs.declared.setup.Outcome.{Outcome}
+use Rattle.document_printing.specs.declared.setup.PageEnd.{PageEnd}
 use Rattle.tbl_stage.specs.declared.rooms.PageLimits.{PageLimits}
 use Rattle.nulbiko.specs.Formatting.{bounds_of, faces_of}
 use Rattle.nulbiko.specs.Printed.{IsPrinted, code_of, form_of, limit_reported, place_reported}
@@ -95,7 +95,7 @@ pub record PrintsDocument (setup : DocumentSetup) (macros page output : List ℕ
   pub set_by : tables ≡ tables_by setup (sets_of setup page) (signs_of (table_for setup.options.table page))
   pub bytes : List ℕ
   pub moves : ℕ
-  pub outcome : Outcome
+  pub outcome : PageEnd
   pub printed : IsPrinted (setting_for setup macros page tables options) (form_of setup.options.form (table_for setup.options.table page))
       page bytes moves outcome report.dropped
   pub handed : IsHanded bytes output report.written

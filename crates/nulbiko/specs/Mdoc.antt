@@ -2,14 +2,14 @@
 use Rattle.std.specs.Prelude.{◌≡◌, ℕ, List, [], length, false, Option, Some}
 use Rattle.nr_units.specs.Source.{Supply}
 use Rattle.document_stages.specs.Running.{is_read_fault}
-use Rattle.document_stages.specs.declared.running.Outcome.{Outcome}
+use Rattle.document_stages.specs.declared.running.RunEnd.{RunEnd}
 use Rattle.mdoc_converter.specs.Running.{Ran}
-use Rattle.document_stages.specs.declared.running.Outcome.TheVariants.{Done, ReadFault, TooLong, WriteFault}
+use Rattle.document_stages.specs.declared.running.RunEnd.TheVariants.{Done, ReadFault, TooLong, WriteFault}
 use Rattle.nulbiko.specs.Reported.{IsHanded, code_within, whole_text}
 use Rattle.nulbiko.specs.declared.reported.Report.{Report}
 
 -- the number of an outcome
-abbrev pub code_of : Outcome → ℕ
+abbrev pub code_of : RunEnd → ℕ
 code_of Done = 0
 code_of WriteFault = 4
 code_of TooLong = 6
@@ -18,7 +18,7 @@ code_of (ReadFault at) = 9
 
 -- The page was turned into one of man(7), and what came out was handed over.
 pub record TurnsPage (text output : List ℕ) (report : Report) (code : ℕ) : Type 0 where
-  pub outcome : Outcome
+  pub outcome : RunEnd
   pub left : Option Supply
   pub bytes : List ℕ
   pub ran : Ran (Some (whole_text text)) left (Some []) (Some bytes) report.moves outcome

@@ -13,7 +13,7 @@ use Rattle.document_reader.specs.Page.{IsShort, man_of, own_of, plain_of}
 use Rattle.document_reader.specs.declared.page.Stages.{Stages}
 use Rattle.document_printing.specs.Document.{Setting, source_of}
 use Rattle.document_printing.specs.Showing.{Shows}
-use Rattle.document_printing.specs.declared.setup.Outcome.{Outcome}
+use Rattle.document_printing.specs.declared.setup.PageEnd.{PageEnd}
 use Rattle.document_printing.specs.declared.setup.Setup.{Setup}
 use Rattle.document_printing.specs.declared.showing.PageTable.{PageTable}
 use Rattle.document_printing.specs.declared.showing.PageTable.TheVariants.{Fixed, Own}
@@ -82,7 +82,7 @@ abbrev pub coded_setup : Setup → Setup
 coded_setup s = record s { stages = record { mdoc = false; characters = false }; characters = Ascii }
 
 -- A reader gets the document of document_printing, of the page in the bytes of its table.
-abbrev pub ShowsOwn : Setting → PageTable → Bool → List ℕ → List ℕ → ℕ → Outcome → Type 0
+abbrev pub ShowsOwn : Setting → PageTable → Bool → List ℕ → List ℕ → ℕ → PageEnd → Type 0
 ShowsOwn s (Own table) escapes text bytes moves outcome =
     Shows (coded_setting s) (spellings.Utf8 (Own table) escapes)
     (source_of (coded_setting s) (whole (own_of s.stages table.now text))) moves outcome (Some []) (Some bytes)
@@ -93,7 +93,7 @@ abbrev pub Lends : PageTable → Characters → Type 0
 Lends (Own table) t = table.now ≡ t
 Lends (Fixed table) t = ⊥
 
-abbrev pub ShowsCoded : Setting → Characters → Bool → List ℕ → List ℕ → ℕ → Outcome → Type 0
+abbrev pub ShowsCoded : Setting → Characters → Bool → List ℕ → List ℕ → ℕ → PageEnd → Type 0
 ShowsCoded s t escapes text bytes moves outcome =
     (table : PageTable) × Lends table t × ShowsOwn s table escapes text bytes moves outcome
 
@@ -116,7 +116,7 @@ pub record PrintsOwn (setup : DocumentSetup) (macros text output : List ℕ) (re
   pub set_by : tables ≡ tables_by setup (sets_of setup text) tables.tables.signs
   pub bytes : List ℕ
   pub moves : ℕ
-  pub outcome : Outcome
+  pub outcome : PageEnd
   pub shown : ShowsOwn (setting_for setup macros text tables options) table (setup.options.form == 2) text bytes moves outcome
   pub handed : IsHanded bytes output report.written
   pub code_is : code ≡ code_within (code_of outcome) (length bytes) (length output)

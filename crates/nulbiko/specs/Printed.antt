@@ -6,8 +6,8 @@ use Rattle.utf8_converter.specs.Lines.{KeepsLines}
 use Rattle.document_stages.specs.Running.{at_most}
 use Rattle.document_stages.specs.Pulling.{whole}
 use Rattle.document_printing.specs.Document.{Prints, Setting, source_of}
-use Rattle.document_printing.specs.declared.setup.Outcome.{Outcome}
-use Rattle.document_printing.specs.declared.setup.Outcome.TheVariants.{Done, Limit, NoRoom, ReadFault, TooLong, WriteFault}
+use Rattle.document_printing.specs.declared.setup.PageEnd.{PageEnd}
+use Rattle.document_printing.specs.declared.setup.PageEnd.TheVariants.{Done, Limit, NoRoom, ReadFault, TooLong, WriteFault}
 use Rattle.nulbiko.specs.Formatting.{limit_number}
 use Rattle.nulbiko.specs.declared.printed.Form.{Form}
 use Rattle.nulbiko.specs.declared.printed.Form.TheVariants.{Bytes, Characters}
@@ -45,7 +45,7 @@ abbrev pub IsPrefix : List ℕ → List ℕ → Type 0
 IsPrefix prefix text = (rest : List ℕ) × (text ≡ prefix ++ rest)
 
 -- All of the pages goes out where there is room, and else a prefix of that.
-abbrev pub IsOut : Outcome → Form → List ℕ → List ℕ → ℕ → Type 0
+abbrev pub IsOut : PageEnd → Form → List ℕ → List ℕ → ℕ → Type 0
 IsOut WriteFault form pages bytes dropped = IsPrefix bytes (shown form pages)
 IsOut ReadFault form pages bytes dropped = Unit {0}
 IsOut TooLong form pages bytes dropped = Unit {0}
@@ -54,12 +54,12 @@ IsOut outcome form pages bytes dropped = Shows form pages bytes dropped
 -- ---- how it ended
 
 -- where the end of what was printed had no room
-abbrev pub cut_off : Outcome → Outcome
+abbrev pub cut_off : PageEnd → PageEnd
 cut_off ReadFault = ReadFault
 cut_off TooLong = TooLong
 cut_off outcome = WriteFault
 
-abbrev pub outcome_of : {E : Type 0} → Outcome → Result ℕ E → Outcome
+abbrev pub outcome_of : {E : Type 0} → PageEnd → Result ℕ E → PageEnd
 outcome_of outcome (Ok dropped) = outcome
 outcome_of outcome (Err e) = cut_off outcome
 
@@ -69,8 +69,8 @@ dropped_of (Err e) = 0
 
 -- A PAGE WAS PRINTED: so many moves of the machine printed these pages of its document, and that is what went out of them. Where
 -- there was room for all pages but not for the end of what they become, that is reported.
-pub record IsPrinted (s : Setting) (form : Form) (page bytes : List ℕ) (moves : ℕ) (outcome : Outcome) (dropped : ℕ) : Type 0 where
-  pub ended : Outcome
+pub record IsPrinted (s : Setting) (form : Form) (page bytes : List ℕ) (moves : ℕ) (outcome : PageEnd) (dropped : ℕ) : Type 0 where
+  pub ended : PageEnd
   pub pages : List ℕ
   pub prints : Prints s (source_of s (whole page)) moves ended (Some []) (Some pages)
   pub reported : (outcome ≡ ended) ⊎ (outcome ≡ cut_off ended)
@@ -78,7 +78,7 @@ pub record IsPrinted (s : Setting) (form : Form) (page bytes : List ℕ) (moves 
 
 -- ---- the numbers
 
-abbrev pub code_of : Outcome → ℕ
+abbrev pub code_of : PageEnd → ℕ
 code_of Done = 0
 code_of (Limit which at) = 1
 code_of NoRoom = 1
@@ -88,12 +88,12 @@ code_of TooLong = 6
 code_of ReadFault = 9
 
 -- which limit would be passed, 7 that of what goes out of a table at once, and 0 where none would
-abbrev pub limit_reported : Outcome → ℕ
+abbrev pub limit_reported : PageEnd → ℕ
 limit_reported (Limit which at) = limit_number which
 limit_reported NoRoom = 7
 limit_reported outcome = 0
 
 -- after how many bytes of what the formatter reads after macros of so many bytes, and 0 in these
-abbrev pub place_reported : ℕ → Outcome → ℕ
+abbrev pub place_reported : ℕ → PageEnd → ℕ
 place_reported macros (Limit which at) = at - macros
 place_reported macros outcome = 0

@@ -10,13 +10,13 @@ use Rattle.tbl_reader.specs.declared.reader.Limits.{Limits}
 use Rattle.tbl_reader.specs.declared.complaint.Complaint.{Complaint}
 use Rattle.tbl_reader.specs.declared.complaint.Kind.{Kind}
 use Rattle.tbl_reader.specs.declared.complaint.Kind.TheVariants as kinds
-use Rattle.tbl_reader.specs.declared.running.Outcome.{Outcome}
-use Rattle.tbl_reader.specs.declared.running.Outcome.TheVariants.{Done, ReadFault, TooLong, WriteFault}
+use Rattle.tbl_reader.specs.declared.running.ReadEnd.{ReadEnd}
+use Rattle.tbl_reader.specs.declared.running.ReadEnd.TheVariants.{Done, ReadFault, TooLong, WriteFault}
 use Rattle.nulbiko.specs.Reported.{IsHanded, code_within, whole_text}
 use Rattle.nulbiko.specs.declared.reported.Report.{Report}
 
 -- the number of an outcome
-abbrev pub code_of : Outcome → ℕ
+abbrev pub code_of : ReadEnd → ℕ
 code_of Done = 0
 code_of WriteFault = 4
 code_of TooLong = 6
@@ -57,7 +57,7 @@ bounds table line = record { signs = signs_of table; limits = limits; cells = li
 
 -- The tables of the text were set for a line of so many cells, with boxes of the characters of the table if there is one, what came out was handed over, and what was wrong first is reported.
 pub record SetsTables (table : Option Table) (line : ℕ) (text output : List ℕ) (report : Report) (code : ℕ) : Type 0 where
-  pub outcome : Outcome
+  pub outcome : ReadEnd
   pub left : Option Supply
   pub bytes : List ℕ
   pub kept : Items Complaint

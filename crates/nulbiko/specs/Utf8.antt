@@ -5,14 +5,14 @@ use Rattle.utf8_characters.specs.declared.table.Table.{Table}
 use Rattle.utf8_converter.specs.Choosing.{IsBest, chosen, looked_at}
 use Rattle.document_stages.specs.Running.{is_read_fault}
 use Rattle.utf8_converter.specs.Running.{Ran}
-use Rattle.document_stages.specs.declared.running.Outcome.{Outcome}
-use Rattle.document_stages.specs.declared.running.Outcome.TheVariants.{Done, ReadFault, TooLong, WriteFault}
+use Rattle.document_stages.specs.declared.running.RunEnd.{RunEnd}
+use Rattle.document_stages.specs.declared.running.RunEnd.TheVariants.{Done, ReadFault, TooLong, WriteFault}
 use Rattle.nulbiko.specs.Tables.{number_of}
 use Rattle.nulbiko.specs.Reported.{IsHanded, code_within, whole_text}
 use Rattle.nulbiko.specs.declared.reported.Report.{Report}
 
 -- the number of an outcome
-abbrev pub code_of : Outcome → ℕ
+abbrev pub code_of : RunEnd → ℕ
 code_of Done = 0
 code_of WriteFault = 4
 code_of TooLong = 6
@@ -22,7 +22,7 @@ code_of (ReadFault at) = 9
 -- The bytes became characters of the table, and what came out was handed over; how many were dropped is reported.
 pub record TurnsBytes (table : Table) (escapes : Bool) (text output : List ℕ) (report : Report)
     (code : ℕ) : Type 0 where
-  pub outcome : Outcome
+  pub outcome : RunEnd
   pub left : Option Supply
   pub bytes : List ℕ
   pub ran : Ran table escapes (Some (whole_text text)) left (Some []) (Some bytes) report.dropped outcome

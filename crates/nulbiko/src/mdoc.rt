@@ -6,7 +6,7 @@ ghost use Rattle.nulbiko.specs.Mdoc.{TurnsPage, code_of};
 use super::pages::{Pages, hand_over};
 use super::reported::{DONE, FULL, OUT_OF_MEMORY, Report, TOO_LONG, UNREADABLE, code_within};
 use super::text::Text;
-use mdoc_converter::{Block, Outcome, convert};
+use mdoc_converter::{Block, RunEnd, convert};
 use nr_vectors::CountedAlloc;
 use std::alloc::{AllocError, Global};
 
@@ -17,16 +17,16 @@ const PENDING_SIZE: usize = 131_072;
 const MOST_BLOCKS: usize = 64;
 
 /// The number of an outcome.
-fn code(outcome: Outcome) -> u32
+fn code(outcome: RunEnd) -> u32
     ensures value { result ≡ code_of outcome }
     ensures not_range { result ≢ 2 }
     ensures not_memory { result ≢ 5 }
 {
     match outcome {
-        Outcome::Done => DONE,
-        Outcome::WriteFault => FULL,
-        Outcome::TooLong => TOO_LONG,
-        Outcome::ReadFault { .. } => UNREADABLE,
+        RunEnd::Done => DONE,
+        RunEnd::WriteFault => FULL,
+        RunEnd::TooLong => TOO_LONG,
+        RunEnd::ReadFault { .. } => UNREADABLE,
     }
 }
 

@@ -12,7 +12,7 @@ use super::tables::{MOST_TABLES, table_of};
 use super::text::Text;
 use nr_vectors::CountedAlloc;
 use preconv_coding::UnderCoding;
-use preconv_converter::{Outcome, Target, convert};
+use preconv_converter::{RunEnd, Target, convert};
 use std::alloc::{AllocError, Global};
 use utf8_characters::Table;
 
@@ -20,16 +20,16 @@ use utf8_characters::Table;
 const PENDING_SIZE: usize = 65_536;
 
 /// The number of an outcome.
-fn code(outcome: Outcome) -> u32
+fn code(outcome: RunEnd) -> u32
     ensures value { result ≡ code_of outcome }
     ensures not_range { result ≢ 2 }
     ensures not_memory { result ≢ 5 }
 {
     match outcome {
-        Outcome::Done => DONE,
-        Outcome::WriteFault => FULL,
-        Outcome::TooLong => TOO_LONG,
-        Outcome::ReadFault { .. } => UNREADABLE,
+        RunEnd::Done => DONE,
+        RunEnd::WriteFault => FULL,
+        RunEnd::TooLong => TOO_LONG,
+        RunEnd::ReadFault { .. } => UNREADABLE,
     }
 }
 

@@ -17,7 +17,7 @@ use super::pages::Pages;
 use super::reported::{DONE, FULL, LIMIT, Report, TOO_LONG, UNREADABLE, count_reported};
 use super::text::Text;
 use document_printing::{
-    Outcome, PageTable, Report as Run, Rooms, Setup, Showing, Spelling, Stages, print, print_shown,
+    PageEnd, PageTable, Report as Run, Rooms, Setup, Showing, Spelling, Stages, print, print_shown,
 };
 use document_reader::{Places, read_own_page};
 use nr_engine::Desk;
@@ -70,7 +70,7 @@ impl Drop for Memory {
 /// How a page was printed.
 #[derive(Clone, Copy)]
 pub(crate) struct Printed {
-    pub outcome: Outcome,
+    pub outcome: PageEnd,
     pub line: u64,
     pub moves: u128,
     /// The bytes that are no character of the table.
@@ -91,11 +91,11 @@ fn print_page<W: Sink>(page: &[u8], setup: &Setup<'_>, memory: &mut Memory, outp
 }
 
 /// The outcome of a page of which the end had no room.
-fn cut_off(outcome: Outcome) -> Outcome
+fn cut_off(outcome: PageEnd) -> PageEnd
     ensures { result ≡ specs.cut_off outcome }
 {
     match outcome {
-        Outcome::Done | Outcome::Limit { .. } | Outcome::NoRoom => Outcome::WriteFault,
+        PageEnd::Done | PageEnd::Limit { .. } | PageEnd::NoRoom => PageEnd::WriteFault,
         _ => outcome,
     }
 }
@@ -217,17 +217,17 @@ pub(crate) fn print_pages(
 }
 
 /// The number of an outcome.
-pub(crate) fn code(outcome: Outcome) -> u32
+pub(crate) fn code(outcome: PageEnd) -> u32
     ensures value { result ≡ specs.code_of outcome }
     ensures not_range { result ≢ 2 }
     ensures not_memory { result ≢ 5 }
 {
     match outcome {
-        Outcome::Done => DONE,
-        Outcome::Limit { .. } | Outcome::NoRoom => LIMIT,
-        Outcome::WriteFault => FULL,
-        Outcome::TooLong => TOO_LONG,
-        Outcome::ReadFault => UNREADABLE,
+        PageEnd::Done => DONE,
+        PageEnd::Limit { .. } | PageEnd::NoRoom => LIMIT,
+        PageEnd::WriteFault => FULL,
+        PageEnd::TooLong => TOO_LONG,
+        PageEnd::ReadFault => UNREADABLE,
     }
 }
 
@@ -241,8 +241,8 @@ pub(crate) fn report_of(printed: Printed, written: usize, macros: usize) -> Repo
     ensures line { result.line ≡ printed.line }
 {
     let (limit, at) = match printed.outcome {
-        Outcome::Limit { which, at } => (limit_number(which), at.saturating_sub(macros as u64)),
-        Outcome::NoRoom => (SET_PAGE, 0),
+        PageEnd::Limit { which, at } => (limit_number(which), at.saturating_sub(macros as u64)),
+        PageEnd::NoRoom => (SET_PAGE, 0),
         _ => (0, 0),
     };
     Report {

@@ -14,7 +14,7 @@ use super::text::Text;
 use nr_vectors::CountedAlloc;
 use nr_vectors::slice_vec::SliceVec;
 use std::alloc::{AllocError, Global};
-use tbl_setting::{Complaint, Kind, Outcome, Rooms, convert};
+use tbl_setting::{Complaint, Kind, ReadEnd, Rooms, convert};
 use utf8_characters::Table;
 
 /// The most bytes of a table that are held.
@@ -24,16 +24,16 @@ const TABLE: usize = 262_144;
 const ROW: usize = 16_384;
 
 /// The number of an outcome.
-fn code(outcome: Outcome) -> u32
+fn code(outcome: ReadEnd) -> u32
     ensures value { result ≡ code_of outcome }
     ensures not_range { result ≢ 2 }
     ensures not_memory { result ≢ 5 }
 {
     match outcome {
-        Outcome::Done => DONE,
-        Outcome::WriteFault => FULL,
-        Outcome::TooLong => TOO_LONG,
-        Outcome::ReadFault { .. } => UNREADABLE,
+        ReadEnd::Done => DONE,
+        ReadEnd::WriteFault => FULL,
+        ReadEnd::TooLong => TOO_LONG,
+        ReadEnd::ReadFault { .. } => UNREADABLE,
     }
 }
 

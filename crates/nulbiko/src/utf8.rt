@@ -16,22 +16,22 @@ use super::text::Text;
 use nr_vectors::CountedAlloc;
 use std::alloc::{AllocError, Global};
 use utf8_characters::Table;
-use utf8_converter::{CHARACTERS, LOOKED_AT, Outcome, choose, convert};
+use utf8_converter::{CHARACTERS, LOOKED_AT, RunEnd, choose, convert};
 
 /// The bytes of what is to go out.
 const PENDING_SIZE: usize = 65_536;
 
 /// The number of an outcome.
-fn code(outcome: Outcome) -> u32
+fn code(outcome: RunEnd) -> u32
     ensures value { result ≡ code_of outcome }
     ensures not_range { result ≢ 2 }
     ensures not_memory { result ≢ 5 }
 {
     match outcome {
-        Outcome::Done => DONE,
-        Outcome::WriteFault => FULL,
-        Outcome::TooLong => TOO_LONG,
-        Outcome::ReadFault { .. } => UNREADABLE,
+        RunEnd::Done => DONE,
+        RunEnd::WriteFault => FULL,
+        RunEnd::TooLong => TOO_LONG,
+        RunEnd::ReadFault { .. } => UNREADABLE,
     }
 }
 

@@ -8,8 +8,8 @@ use Rattle.nr_units.specs.Source.{Supply, reader_supply}
 use Rattle.preconv_coding.specs.UnderCoding as coding
 use Rattle.document_stages.specs.Pulling.{Came}
 use Rattle.document_stages.specs.Running as runs
-use Rattle.document_stages.specs.declared.running.Outcome.{Outcome}
-use Rattle.document_stages.specs.declared.running.Outcome.TheVariants as outcomes
+use Rattle.document_stages.specs.declared.running.RunEnd.{RunEnd}
+use Rattle.document_stages.specs.declared.running.RunEnd.TheVariants as outcomes
 use Rattle.filters.specs.Turning.{Begins, Filter, IsAll, Turned, is_write_fault, text_left}
 use Rattle.filters.specs.declared.endings.Ending.{Ending}
 use Rattle.filters.specs.declared.endings.Ending.TheVariants.{Done, Complained, TooLong, ReadFault, WriteFault, BadWord, CannotOpen, CannotRead, OutOfMemory}
@@ -40,7 +40,7 @@ came_all says (Some all) (Some t) bytes comes ends = sym (comes.0 ∙ ap (λ (l 
 
 -- by how its line was ended
 by_end : (fine : Bool) (says : Bool → List ℕ → List ℕ) (counts : Bool → List ℕ → ℕ) (wants : ℕ) (name : Bor (List ℕ)) (left : Option (List ℕ))
-    (last : Option Supply) (held between new : Option (List ℕ)) (count : ℕ) (outcome : Outcome)
+    (last : Option Supply) (held between new : Option (List ℕ)) (count : ℕ) (outcome : RunEnd)
     → runs.Ran says counts wants (coding.text_supply (reader_supply left)) last held between count outcome → PutsEnd fine outcome between new
     → Turned (saying says) (record { name = name.now; left = left }) held new (ending_of fine name outcome)
 by_end true says counts wants name left last held between new count outcomes.Done ran puts = record {
@@ -85,7 +85,7 @@ by_end fine says counts wants name left last held between new count outcomes.Wri
 }
 
 pub turned : (says : Bool → List ℕ → List ℕ) (counts : Bool → List ℕ → ℕ) (wants : ℕ) (name : Bor (List ℕ)) (left : Option (List ℕ)) (first last : Option Supply)
-    (held between new : Option (List ℕ)) (count : ℕ) (outcome : Outcome) (ending : Ending) → first ≡ coding.text_supply (reader_supply left)
+    (held between new : Option (List ℕ)) (count : ℕ) (outcome : RunEnd) (ending : Ending) → first ≡ coding.text_supply (reader_supply left)
     → runs.Ran says counts wants first last held between count outcome → Ended outcome name between new ending
     → Turned (saying says) (record { name = name.now; left = left }) held new ending
 turned says counts wants name left first last held between new count outcome ending supply ran ended =
@@ -119,14 +119,14 @@ same_fault (CannotOpen n) = refl
 same_fault (CannotRead n) = refl
 same_fault OutOfMemory = refl
 
-still_fault : (fine : Bool) (name : Bor (List ℕ)) (outcome : Outcome) → runs.is_write_fault outcome ≡ true → is_write_fault (ending_of fine name outcome) ≡ true
+still_fault : (fine : Bool) (name : Bor (List ℕ)) (outcome : RunEnd) → runs.is_write_fault outcome ≡ true → is_write_fault (ending_of fine name outcome) ≡ true
 still_fault fine name outcomes.WriteFault is = refl
 still_fault fine name outcomes.Done is = cc
 still_fault fine name (outcomes.ReadFault at) is = cc
 still_fault fine name outcomes.TooLong is = cc
 
 -- counted by the conversion, or at the end of the line
-by_fault : (is : Bool) (outcome : Outcome) (name : Bor (List ℕ)) (between new : Option (List ℕ)) (ending : Ending) (old mid last : SinkFailures)
+by_fault : (is : Bool) (outcome : RunEnd) (name : Bor (List ℕ)) (between new : Option (List ℕ)) (ending : Ending) (old mid last : SinkFailures)
     → runs.is_write_fault outcome ≡ is → Ended outcome name between new ending → mid ≡ put_counted_if is old
     → (runs.is_write_fault outcome ≡ false → last ≡ put_counted_if (is_write_fault ending) mid)
     → (runs.is_write_fault outcome ≡ true → last ≡ mid) → last ≡ put_counted_if (is_write_fault ending) old
@@ -136,7 +136,7 @@ by_fault true outcome name between new ending old mid last is ended counted late
 by_fault false outcome name between new ending old mid last is ended counted later same =
     later is ∙ ap (λ (f : SinkFailures). put_counted_if (is_write_fault ending) f) counted
 
-pub failures : (outcome : Outcome) (name : Bor (List ℕ)) (between new : Option (List ℕ)) (ending : Ending) (old mid last : SinkFailures)
+pub failures : (outcome : RunEnd) (name : Bor (List ℕ)) (between new : Option (List ℕ)) (ending : Ending) (old mid last : SinkFailures)
     → Ended outcome name between new ending → mid ≡ put_counted_if (runs.is_write_fault outcome) old
     → (runs.is_write_fault outcome ≡ false → last ≡ put_counted_if (is_write_fault ending) mid)
     → (runs.is_write_fault outcome ≡ true → last ≡ mid) → last ≡ put_counted_if (is_write_fault ending) old

@@ -7,8 +7,8 @@ use Rattle.preconv_coding.specs.UnderCoding as coding
 use Rattle.preconv_converter.specs.Reading.{converted, fed, first_reader}
 use Rattle.preconv_converter.specs.declared.target.Target.{Target}
 use Rattle.preconv_converter.specs.declared.target.Target.TheVariants.{Ascii, Bytes, Utf8}
-use Rattle.document_stages.specs.declared.running.Outcome.{Outcome}
-use Rattle.document_stages.specs.declared.running.Outcome.TheVariants as outcomes
+use Rattle.document_stages.specs.declared.running.RunEnd.{RunEnd}
+use Rattle.document_stages.specs.declared.running.RunEnd.TheVariants as outcomes
 use Rattle.utf8_own_characters.specs.Table.{Characters}
 use Rattle.utf8_own_stage.specs.Coding.{coded_text}
 use Rattle.filters.specs.Program as programs
@@ -74,7 +74,7 @@ abbrev pub EndsLine : Option (List ℕ) → Option (List ℕ) → Type 0
 EndsLine held new = (end : List ℕ) × MayEnd true end × Appends held new end
 
 -- how a text of this name ended, where its line could be ended or not
-abbrev pub ending_of : Bool → Bor (List ℕ) → Outcome → Ending
+abbrev pub ending_of : Bool → Bor (List ℕ) → RunEnd → Ending
 ending_of true name outcomes.Done = Done
 ending_of false name outcomes.Done = WriteFault
 ending_of fine name (outcomes.ReadFault at) = ReadFault (Some name) at
@@ -82,14 +82,14 @@ ending_of fine name outcomes.TooLong = TooLong (Some name)
 ending_of fine name outcomes.WriteFault = WriteFault
 
 -- what went out at the end
-abbrev pub PutsEnd : Bool → Outcome → Option (List ℕ) → Option (List ℕ) → Type 0
+abbrev pub PutsEnd : Bool → RunEnd → Option (List ℕ) → Option (List ℕ) → Type 0
 PutsEnd true outcomes.Done held new = EndsLine held new
 PutsEnd false outcomes.Done held new = AppendsPrefix held new (codes "\n")
 PutsEnd fine (outcomes.ReadFault at) held new = new ≡ held
 PutsEnd fine outcomes.TooLong held new = new ≡ held
 PutsEnd fine outcomes.WriteFault held new = new ≡ held
 
-pub record Ended (outcome : Outcome) (name : Bor (List ℕ)) (held new : Option (List ℕ)) (ending : Ending) : Type 0 where
+pub record Ended (outcome : RunEnd) (name : Bor (List ℕ)) (held new : Option (List ℕ)) (ending : Ending) : Type 0 where
   pub fine : Bool
   pub ending_is : ending ≡ ending_of fine name outcome
   pub puts : PutsEnd fine outcome held new

@@ -18,7 +18,7 @@ use itoa::Buffer;
 use nr_units::buffered::Buffered;
 use nr_units::sink::Sink;
 use preconv_coding::{UnderCoding, Unknown};
-use preconv_converter::{Outcome, Target, convert};
+use preconv_converter::{RunEnd, Target, convert};
 use std::io::Read;
 
 /// The program.
@@ -137,24 +137,20 @@ impl Turns for Turner {
 }
 
 /// How a text ended. Where it is whole, a line that it left open is ended.
-pub(crate) fn ended<'a, W: Sink>(
-    outcome: Outcome,
-    name: &'a str,
-    lines: &mut Lines<W>,
-) -> Ending<'a>
+pub(crate) fn ended<'a, W: Sink>(outcome: RunEnd, name: &'a str, lines: &mut Lines<W>) -> Ending<'a>
     ensures ended { Ended outcome name.entry (W.held lines.old.output) (W.held lines.new.output) result }
     ensures failures { is_write_fault outcome ≡ false → W.failures lines.new.output
         ≡ put_counted_if (turning.is_write_fault result) (W.failures lines.old.output) }
     ensures same { is_write_fault outcome ≡ true → W.failures lines.new.output ≡ W.failures lines.old.output }
 {
     match outcome {
-        Outcome::Done => match lines.end_line() {
+        RunEnd::Done => match lines.end_line() {
             Ok(()) => Ending::Done,
             Err(_) => Ending::WriteFault,
         },
-        Outcome::WriteFault => Ending::WriteFault,
-        Outcome::TooLong => Ending::TooLong(Some(name)),
-        Outcome::ReadFault { at } => Ending::ReadFault(Some(name), at),
+        RunEnd::WriteFault => Ending::WriteFault,
+        RunEnd::TooLong => Ending::TooLong(Some(name)),
+        RunEnd::ReadFault { at } => Ending::ReadFault(Some(name), at),
     }
 }
 

@@ -4,7 +4,7 @@ use Rattle.std.specs.List.{AllPass}
 use Rattle.nr_units.specs.Source.{Supply}
 use Rattle.document_stages.specs.Running as runs
 use Rattle.document_stages.specs.Running.{at_most}
-use Rattle.document_stages.specs.declared.running.Outcome.{Outcome}
+use Rattle.document_stages.specs.declared.running.RunEnd.{RunEnd}
 use Rattle.document_stages.proofs.Runs.{Ran-counted, Ran-known}
 use Rattle.preconv_converter.specs.declared.target.Target.{Target}
 use Rattle.preconv_converter.specs.Reading.{first_reader}
@@ -18,7 +18,7 @@ below-most : (n k : ℕ) → n ≤ 6 * k → k ≤ 1099511627776 → at_most (0 
 below-most n k l m = omega (arith, l, m)
 
 pub ran-of : (e : Target) (says : Bool → List ℕ → List ℕ) (counts : Bool → List ℕ → ℕ) (wants : ℕ) (first last : Option Supply) (held new : Option (List ℕ))
-    (n k : ℕ) (outcome : Outcome) → says ≡ said (first_reader e) → counts ≡ counted 0 (first_reader e) → wants ≡ 1536 → k ≡ n
+    (n k : ℕ) (outcome : RunEnd) → says ≡ said (first_reader e) → counts ≡ counted 0 (first_reader e) → wants ≡ 1536 → k ≡ n
     → runs.Ran says counts wants first last held new n outcome → Ran e first last held new k outcome
 ran-of e says counts wants first last held new n k outcome p q w same ran =
     let r = first_reader e in

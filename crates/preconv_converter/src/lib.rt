@@ -40,7 +40,7 @@ mod word_laws;
 mod words;
 
 pub use composed::lacks_letter;
-pub use document_stages::Outcome;
+pub use document_stages::RunEnd;
 pub use likeness::put_likeness;
 pub use plain_text::passes_unchanged;
 pub use running::convert;

@@ -13,7 +13,7 @@ ghost use Rattle.preconv_converter.specs.Unread.{CommentsAreUnread, IgnoredLines
 
 use super::staged::Turner;
 use super::target::Target;
-use document_stages::{Outcome, run};
+use document_stages::{RunEnd, run};
 use nr_units::sink::Sink;
 use nr_units::source::Source;
 
@@ -51,7 +51,7 @@ pub fn convert<R: Source, W: Sink>(
     table: Target,
     buffer: &mut [u8],
     steps: &mut u64,
-) -> Outcome
+) -> RunEnd
     requires { 1536 ≤ length buffer.old }
     ensures ran { Ran table (R.supply input.old) (R.supply input.new) (W.held output.old) (W.held output.new)
         steps.new result }

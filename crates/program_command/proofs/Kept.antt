@@ -6,8 +6,8 @@ use Rattle.nr_units.specs.Sink.{AppendsPrefix}
 use Rattle.nr_units.specs.Source.{Supply}
 use Rattle.document_printing.specs.Document.{Setting}
 use Rattle.document_printing.specs.Showing.{IsShown, Shows, document}
-use Rattle.document_printing.specs.declared.setup.Outcome.{Outcome}
-use Rattle.document_printing.specs.declared.setup.Outcome.TheVariants.{Done, Limit, NoRoom, ReadFault, TooLong, WriteFault}
+use Rattle.document_printing.specs.declared.setup.PageEnd.{PageEnd}
+use Rattle.document_printing.specs.declared.setup.PageEnd.TheVariants.{Done, Limit, NoRoom, ReadFault, TooLong, WriteFault}
 use Rattle.document_printing.specs.declared.setup.Report.{Report}
 use Rattle.document_printing.specs.declared.showing.Spelling.{Spelling}
 use Rattle.nr_machine.specs.declared.outcome.Outcome as machine
@@ -38,14 +38,14 @@ Keeps-same {S} held a b same = subst (λ (s : S). Keeps (held a) (held s)) (sym 
 AppendsPrefix-kept : (a b c : Option (List ℕ)) (bs : List ℕ) → AppendsPrefix a b bs → Keeps b c → AppendsPrefix a c bs
 AppendsPrefix-kept a b c bs (prefix, rest, is, grown) q = (prefix, rest, is, Appends-kept a b c prefix grown q)
 
-IsShown-kept : (s : Setting) (spelling : Spelling) (source : Supply) (n : ℕ) (ended : machine.Outcome) (a b c : Option (List ℕ))
+IsShown-kept : (s : Setting) (spelling : Spelling) (source : Supply) (n : ℕ) (ended : machine.PageEnd) (a b c : Option (List ℕ))
     → IsShown s spelling source n ended a b → Keeps b c → IsShown s spelling source n ended a c
 IsShown-kept s spelling source n ended a b c shown q = record {
   ran = shown.ran;
   out = Appends-kept a b c (document s spelling source n) shown.out q;
 }
 
-pub Shows-kept : (s : Setting) (spelling : Spelling) (source : Supply) (n : ℕ) (outcome : Outcome) (a b c : Option (List ℕ))
+pub Shows-kept : (s : Setting) (spelling : Spelling) (source : Supply) (n : ℕ) (outcome : PageEnd) (a b c : Option (List ℕ))
     → Shows s spelling source n outcome a b → Keeps b c → Shows s spelling source n outcome a c
 Shows-kept s spelling source n Done a b c shows q = IsShown-kept s spelling source n _ a b c shows q
 Shows-kept s spelling source n (Limit which at) a b c shows q = IsShown-kept s spelling source n _ a b c shows q

@@ -1,7 +1,7 @@
 -- A run of which a text was left out comes to what it came to.
 use Rattle.std.proofs.Common.{◌≡◌, ℕ, List, Bool, true, false, Option, ◌⊎◌, inl, inr, sym, subst}
 use Rattle.nr_units.specs.Source.{Supply}
-use Rattle.document_printing.specs.declared.setup.Outcome.TheVariants as outcomes
+use Rattle.document_printing.specs.declared.setup.PageEnd.TheVariants as outcomes
 use Rattle.document_printing.specs.declared.setup.Report.{Report}
 use Rattle.program_options.specs.Job.{Asked}
 use Rattle.program_command.specs.Program.{IsOfRun}

@@ -6,7 +6,7 @@ use Rattle.nr_command.specs.Opening.{name_of}
 use Rattle.filters.specs.Endings.{Tells}
 use Rattle.nr_units.specs.Failures.{SinkFailures}
 use Rattle.program_command.specs.declared.endings.Ending.{Ending}
-use Rattle.document_printing.specs.declared.setup.Outcome.TheVariants as outcomes
+use Rattle.document_printing.specs.declared.setup.PageEnd.TheVariants as outcomes
 use Rattle.document_printing.specs.declared.setup.Report.{Report}
 use Rattle.program_command.specs.declared.endings.Ending.TheVariants.{Done, Unshown}
 use Rattle.program_command.specs.Running.{IsReported, IsWholeBut}

@@ -8,7 +8,7 @@ use Rattle.preconv_coding.specs.declared.names.Coding.{Coding}
 use Rattle.nr_options.specs.declared.options.Options.{Options}
 use Rattle.document_sources.specs.Joining.{Texts, followed}
 use Rattle.document_reader.specs.Page.{breaks_off}
-use Rattle.document_printing.specs.declared.setup.Outcome.TheVariants as outcomes
+use Rattle.document_printing.specs.declared.setup.PageEnd.TheVariants as outcomes
 use Rattle.document_printing.specs.declared.setup.Report.{Report}
 use Rattle.program_options.specs.Job.{Asked}
 use Rattle.program_options.specs.declared.plain.Faces.TheVariants as faces

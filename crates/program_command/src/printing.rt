@@ -11,7 +11,7 @@ use crate::bare::Bare;
 use crate::nowhere::Nowhere;
 use crate::plan::Plan;
 use document_printing::{
-    Outcome, PageLimits, PageTable, Report, Rooms, Setup, Showing, Spelling, print, print_shown,
+    PageEnd, PageLimits, PageTable, Report, Rooms, Setup, Showing, Spelling, print, print_shown,
 };
 use nr_engine::{Desk, Options, Sink, Source};
 use nr_vectors::CountedAlloc;
@@ -170,7 +170,7 @@ fn ended(report: Report, is_out: bool) -> Report {
         report
     } else {
         Report {
-            outcome: Outcome::WriteFault,
+            outcome: PageEnd::WriteFault,
             ..report
         }
     }

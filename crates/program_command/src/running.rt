@@ -18,7 +18,7 @@ use crate::own::{own_cells, print_by_plan, unshown};
 use crate::plan::{LOOKED_AT, MORE_LOOKED_AT, Plan, limits_of, options_of, plan_of};
 use crate::printing::Means;
 use crate::surroundings::Surroundings;
-use document_printing::{Outcome, Prefixed, Report, hold};
+use document_printing::{PageEnd, Prefixed, Report, hold};
 use document_sources::{Folder, Joining, LeftOut, Limits, Omissions};
 use nr_command_options::chain;
 use nr_engine::{CountedAlloc, Desk, Options, Sink, Source};
@@ -68,12 +68,12 @@ fn ending_of<'a>(report: &Report, name: &'a str, unshown: Vec<u8>) -> Ending<'a>
         line: report.line,
     };
     match report.outcome {
-        Outcome::Done => printed(name, unshown),
-        Outcome::Limit { which, .. } => Ending::Limit(place, which),
-        Outcome::NoRoom => Ending::NoRoom(place),
-        Outcome::ReadFault => Ending::ReadFault(place),
-        Outcome::TooLong => Ending::TooLong,
-        Outcome::WriteFault => Ending::WriteFault,
+        PageEnd::Done => printed(name, unshown),
+        PageEnd::Limit { which, .. } => Ending::Limit(place, which),
+        PageEnd::NoRoom => Ending::NoRoom(place),
+        PageEnd::ReadFault => Ending::ReadFault(place),
+        PageEnd::TooLong => Ending::TooLong,
+        PageEnd::WriteFault => Ending::WriteFault,
     }
 }
 

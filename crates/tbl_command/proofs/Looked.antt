@@ -4,7 +4,7 @@ use Rattle.nr_vectors.specs.Items.{Items}
 use Rattle.nr_units.specs.Source.{Supply}
 use Rattle.tbl_reader.specs.Running as reading
 use Rattle.tbl_reader.specs.declared.complaint.Complaint.{Complaint}
-use Rattle.tbl_reader.specs.declared.running.Outcome.TheVariants as outcomes
+use Rattle.tbl_reader.specs.declared.running.ReadEnd.TheVariants as outcomes
 use Rattle.tbl_setting.specs.Bounds.{Bounds}
 use Rattle.tbl_setting.specs.Running.{Ran}
 use Rattle.tbl_command.specs.Complaints.{lines_of}

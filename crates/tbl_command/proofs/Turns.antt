@@ -7,8 +7,8 @@ use Rattle.nr_units.specs.Sink.{AppendsPrefix}
 use Rattle.tbl_reader.specs.Running as reading
 use Rattle.tbl_reader.specs.Telling.{Piece}
 use Rattle.tbl_reader.specs.declared.complaint.Complaint.{Complaint}
-use Rattle.tbl_reader.specs.declared.running.Outcome.{Outcome}
-use Rattle.tbl_reader.specs.declared.running.Outcome.TheVariants as outcomes
+use Rattle.tbl_reader.specs.declared.running.ReadEnd.{ReadEnd}
+use Rattle.tbl_reader.specs.declared.running.ReadEnd.TheVariants as outcomes
 use Rattle.tbl_setting.specs.declared.setting.Setting.{Setting}
 use Rattle.tbl_setting.specs.Bounds.{Bounds}
 use Rattle.tbl_setting.specs.Running.{PutsPrefix, Ran, set_page}
@@ -34,7 +34,7 @@ either begun whole some all t held new kept missed uneven (inl p) = inr p.went_o
 either begun whole some all t held new kept missed uneven (inr p) = inl (rw (append-nil whole) p.went_out)
 
 by_outcome : (wrong : Bool) (b : Bounds) (name : List ℕ) (left : Option (List ℕ)) (last : Option Supply) (held new : Option (List ℕ)) (kept : Items Complaint)
-    (missed uneven : Bool) (outcome : Outcome) → Ran b (reader_supply left) last held new kept missed uneven outcome
+    (missed uneven : Bool) (outcome : ReadEnd) → Ran b (reader_supply left) last held new kept missed uneven outcome
     → Turned (tbl b) (record { name = name; left = left }) held new (ending_of wrong outcome)
 by_outcome true b name left last held new kept missed uneven outcomes.Done ran = record {
   text = ran.bytes;
@@ -79,21 +79,21 @@ by_outcome wrong b name left last held new kept missed uneven outcomes.WriteFaul
 }
 
 pub turned : (wrong : Bool) (b : Bounds) (name : List ℕ) (left : Option (List ℕ)) (first last : Option Supply) (held new : Option (List ℕ)) (kept : Items Complaint)
-    (missed uneven : Bool) (outcome : Outcome) (ending : Ending) → first ≡ reader_supply left → Ran b first last held new kept missed uneven outcome
+    (missed uneven : Bool) (outcome : ReadEnd) (ending : Ending) → first ≡ reader_supply left → Ran b first last held new kept missed uneven outcome
     → ending ≡ ending_of wrong outcome → Turned (tbl b) (record { name = name; left = left }) held new ending
 turned wrong b name left first last held new kept missed uneven outcome ending supply ran ended =
     rw ended (by_outcome wrong b name left last held new kept missed uneven outcome
     (subst (λ (s : Option Supply). Ran b s last held new kept missed uneven outcome) supply ran))
 
 -- each failed call was counted
-same_fault : (wrong : Bool) (outcome : Outcome) → reading.is_write_fault outcome ≡ is_write_fault (ending_of wrong outcome)
+same_fault : (wrong : Bool) (outcome : ReadEnd) → reading.is_write_fault outcome ≡ is_write_fault (ending_of wrong outcome)
 same_fault true outcomes.Done = refl
 same_fault false outcomes.Done = refl
 same_fault wrong (outcomes.ReadFault at) = refl
 same_fault wrong outcomes.TooLong = refl
 same_fault wrong outcomes.WriteFault = refl
 
-pub failures : (wrong : Bool) (outcome : Outcome) (ending : Ending) (old new : SinkFailures) → ending ≡ ending_of wrong outcome
+pub failures : (wrong : Bool) (outcome : ReadEnd) (ending : Ending) (old new : SinkFailures) → ending ≡ ending_of wrong outcome
     → new ≡ put_counted_if (reading.is_write_fault outcome) old → new ≡ put_counted_if (is_write_fault ending) old
 failures wrong outcome ending old new ended counted =
     rw ended (counted ∙ ap (λ (b : Bool). put_counted_if b old) (same_fault wrong outcome))

@@ -1,8 +1,8 @@
 -- What tbl makes of texts, and what its words ask for.
 use Rattle.std.specs.Prelude.{◌≡◌, ℕ, List, [], drop, get_or, min, Bool, true, false, Option, None, Some, Result, Ok, Err, codes}
 use Rattle.tbl_table.specs.declared.signs.Signs.{Signs}
-use Rattle.tbl_reader.specs.declared.running.Outcome.{Outcome}
-use Rattle.tbl_reader.specs.declared.running.Outcome.TheVariants as outcomes
+use Rattle.tbl_reader.specs.declared.running.ReadEnd.{ReadEnd}
+use Rattle.tbl_reader.specs.declared.running.ReadEnd.TheVariants as outcomes
 use Rattle.tbl_setting.specs.Drawing.{signs_of}
 use Rattle.tbl_setting.specs.Bounds.{Bounds}
 use Rattle.tbl_setting.specs.Running.{set_page, set_so_far}
@@ -80,7 +80,7 @@ abbrev pub AsksFor : List (List ℕ) → programs.Job → Type 0
 AsksFor words job = (answer : Result Job BadWord) × IsAnswer words answer × AsksAs words answer job
 
 -- how a text ended, complained of or not
-abbrev pub ending_of : Bool → Outcome → Ending
+abbrev pub ending_of : Bool → ReadEnd → Ending
 ending_of true outcomes.Done = Complained
 ending_of false outcomes.Done = Done
 ending_of wrong (outcomes.ReadFault at) = ReadFault None at

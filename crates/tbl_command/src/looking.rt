@@ -9,7 +9,7 @@ use nr_units::sink::Sink;
 use nr_units::source::Source;
 use nr_vectors::slice_vec::SliceVec;
 use std::alloc::{AllocError, Global};
-use tbl_setting::{Complaint, Outcome, Report, convert};
+use tbl_setting::{Complaint, ReadEnd, Report, convert};
 
 /// What is wrong with the tables of a page.
 #[derive(Drop)]
@@ -35,7 +35,7 @@ pub fn look_at<S: Source, W: Sink + Drop>(
     let mut complaints = SliceVec::over(&mut rooms.complaints);
     let (report, _) = convert(text, output, &mut rooms.held, &mut complaints);
     match report.outcome {
-        Outcome::Done => {
+        ReadEnd::Done => {
             let complaints = Vec::from_slice(alloc, complaints.as_slice())?;
             Ok(Some(Tables { report, complaints }))
         }

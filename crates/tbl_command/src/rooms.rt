@@ -13,7 +13,7 @@ use nr_vectors::CountedAlloc;
 use nr_vectors::slice_vec::SliceVec;
 use std::alloc::{AllocError, Global};
 use std::io::Read;
-use tbl_setting::{Complaint, Outcome, Signs, convert};
+use tbl_setting::{Complaint, ReadEnd, Signs, convert};
 use utf8_characters::Table;
 
 /// How many complaints about the tables of a text are reported.
@@ -92,14 +92,14 @@ impl Turns for Rooms {
 }
 
 /// How a text ended, in which something was wrong or not.
-fn ended<'a>(outcome: Outcome, wrong: bool) -> Ending<'a>
+fn ended<'a>(outcome: ReadEnd, wrong: bool) -> Ending<'a>
     ensures { result ≡ ending_of wrong outcome }
 {
     match outcome {
-        Outcome::Done if wrong => Ending::Complained,
-        Outcome::Done => Ending::Done,
-        Outcome::TooLong => Ending::TooLong(None),
-        Outcome::ReadFault { at } => Ending::ReadFault(None, at),
-        Outcome::WriteFault => Ending::WriteFault,
+        ReadEnd::Done if wrong => Ending::Complained,
+        ReadEnd::Done => Ending::Done,
+        ReadEnd::TooLong => Ending::TooLong(None),
+        ReadEnd::ReadFault { at } => Ending::ReadFault(None, at),
+        ReadEnd::WriteFault => Ending::WriteFault,
     }
 }

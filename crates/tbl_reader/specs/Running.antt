@@ -3,8 +3,8 @@ use Rattle.std.specs.Prelude.{◌≡◌, ℕ, ◌+◌, ◌*◌, ◌<◌, ◌≤�
 use Rattle.nr_units.specs.Failures.{next_count}
 use Rattle.nr_units.specs.Source.{Supply}
 use Rattle.tbl_reader.specs.declared.reader.Limits.{Limits}
-use Rattle.tbl_reader.specs.declared.running.Outcome.{Outcome}
-use Rattle.tbl_reader.specs.declared.running.Outcome.TheVariants.{Done, ReadFault, TooLong, WriteFault}
+use Rattle.tbl_reader.specs.declared.running.ReadEnd.{ReadEnd}
+use Rattle.tbl_reader.specs.declared.running.ReadEnd.TheVariants.{Done, ReadFault, TooLong, WriteFault}
 use Rattle.tbl_reader.specs.declared.running.TurnResult.{TurnResult}
 use Rattle.tbl_reader.specs.declared.running.TurnResult.TheVariants as turns
 use Rattle.tbl_reader.specs.Ending.{finished, first_page, page_said}
@@ -99,19 +99,19 @@ pub record IsBroken {A S : Type 0} (shows : A → S → Type 0) (hears : Piece �
   pub few : length (page_said l cells bytes) ≤ 16 * (length bytes + 1)
 
 abbrev pub Ran : {A S : Type 0} → (A → S → Type 0) → (Piece → S → S) → Limits → ℕ → Option Supply
-    → Option Supply → A → A → Outcome → Type 0
+    → Option Supply → A → A → ReadEnd → Type 0
 Ran shows hears l cells first last old new Done = IsDone shows hears l cells first last old new
 Ran shows hears l cells first last old new (ReadFault at) = IsCut shows hears l cells first last old new at
 Ran shows hears l cells first last old new TooLong =
     IsCut shows hears l cells first last old new 1099511627776
 Ran shows hears l cells first last old new WriteFault = IsBroken shows hears l cells first last old new
 
-abbrev pub is_write_fault : Outcome → Bool
+abbrev pub is_write_fault : ReadEnd → Bool
 is_write_fault WriteFault = true
 is_write_fault outcome = false
 
 -- a read fault is emitted where a call of the source failed, and else none failed, but where what was emitted could not be put out
-abbrev pub TellsReads : Outcome → ℕ → ℕ → Type 0
+abbrev pub TellsReads : ReadEnd → ℕ → ℕ → Type 0
 TellsReads Done before after = after ≡ before
 TellsReads (ReadFault at) before after = after ≡ next_count before
 TellsReads TooLong before after = after ≡ before

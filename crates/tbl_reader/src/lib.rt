@@ -30,6 +30,6 @@ pub use field::Mark;
 pub use formats::{Call, Called};
 pub use options::{Frame, Options};
 pub use reader::{Limits, Reader};
-pub use running::{Outcome, read_page};
+pub use running::{ReadEnd, read_page};
 pub use telling::{Setter, Tell};
 pub use untouched::passes_unchanged;

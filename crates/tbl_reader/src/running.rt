@@ -17,7 +17,7 @@ const CHUNK: usize = 16384;
 
 /// How a run ended.
 #[derive(Clone, Copy, Debug, PartialEq, Eq)]
-pub enum Outcome {
+pub enum ReadEnd {
     /// All was turned and went out.
     Done,
     /// The input failed after so many bytes.
@@ -116,7 +116,7 @@ pub fn read_page<R: Source, S: Setter>(
     reader: &mut Reader,
     input: &mut R,
     setter: &mut S,
-) -> Outcome
+) -> ReadEnd
     ensures ran { specs.Ran S.shows S.hears reader.old.limits reader.old.state.measure.line
         (R.supply input.old) (R.supply input.new) setter.old setter.new result }
     // A read fault is emitted only where the source failed once, and then always, but where the setter fails too.
@@ -134,13 +134,13 @@ pub fn read_page<R: Source, S: Setter>(
     while taken < TOO_MANY {
         let turn = make_turn(reader, input, setter, TOO_MANY - taken);
         if setter.has_failed() {
-            return Outcome::WriteFault;
+            return ReadEnd::WriteFault;
         }
         match turn {
             TurnResult::Took(count) => taken += count,
-            TurnResult::End => return Outcome::Done,
-            TurnResult::ReadFault => return Outcome::ReadFault { at: taken },
+            TurnResult::End => return ReadEnd::Done,
+            TurnResult::ReadFault => return ReadEnd::ReadFault { at: taken },
         }
     }
-    Outcome::TooLong
+    ReadEnd::TooLong
 }

@@ -8,8 +8,8 @@ use Rattle.nr_vectors.specs.Items.{Items}
 use Rattle.nr_units.specs.Sink.{AppendsPrefix}
 use Rattle.nr_units.specs.Source.{Supply}
 use Rattle.tbl_reader.specs.declared.complaint.Complaint.{Complaint}
-use Rattle.tbl_reader.specs.declared.running.Outcome.{Outcome}
-use Rattle.tbl_reader.specs.declared.running.Outcome.TheVariants.{Done, ReadFault, TooLong, WriteFault}
+use Rattle.tbl_reader.specs.declared.running.ReadEnd.{ReadEnd}
+use Rattle.tbl_reader.specs.declared.running.ReadEnd.TheVariants.{Done, ReadFault, TooLong, WriteFault}
 use Rattle.tbl_reader.specs.Ending.{page_said}
 use Rattle.tbl_reader.specs.Running as reading
 use Rattle.tbl_reader.specs.Telling.{Piece, Tells}
@@ -87,19 +87,19 @@ module _ {A : Type 0} (shows : A → Shown → Type 0) (old new : A) (w : Bounds
   either (inl emitted) = inl (part _ emitted)
   either (inr emitted) = inr (part _ emitted)
 
-  ran-whole : (o : Outcome) → reading.Ran shows hears w.limits w.cells first last old new o → b.failed ≡ false → b.pending ≡ [] → Ran w first last s.held b.held kept.now missed table.now.layout.uneven o
+  ran-whole : (o : ReadEnd) → reading.Ran shows hears w.limits w.cells first last old new o → b.failed ≡ false → b.pending ≡ [] → Ran w first last s.held b.held kept.now missed table.now.layout.uneven o
   ran-whole Done r live empty = record { bytes = r.bytes; came = r.came; ends = r.ends; puts = whole _ r.emitted live empty }
   ran-whole (ReadFault at) r live empty = record { bytes = r.bytes; came = r.came; count = r.count; puts = whole _ r.emitted live empty }
   ran-whole TooLong r live empty = record { bytes = r.bytes; came = r.came; count = r.count; puts = whole _ r.emitted live empty }
   ran-whole WriteFault r live empty = record { bytes = r.bytes; came = r.came; puts = either r.emitted }
 
-  broken : (o : Outcome) → reading.Ran shows hears w.limits w.cells first last old new o → IsBroken w first last s.held b.held kept.now missed table.now.layout.uneven
+  broken : (o : ReadEnd) → reading.Ran shows hears w.limits w.cells first last old new o → IsBroken w first last s.held b.held kept.now missed table.now.layout.uneven
   broken Done r = record { bytes = r.bytes; came = r.came; puts = inr (part _ r.emitted) }
   broken (ReadFault at) r = record { bytes = r.bytes; came = r.came; puts = inl (part _ r.emitted) }
   broken TooLong r = record { bytes = r.bytes; came = r.came; puts = inl (part _ r.emitted) }
   broken WriteFault r = record { bytes = r.bytes; came = r.came; puts = either r.emitted }
 
-  ran-ends : (wanted o : Outcome) → reading.Ran shows hears w.limits w.cells first last old new wanted → EndsAs wanted o b → Ran w first last s.held b.held kept.now missed table.now.layout.uneven o
+  ran-ends : (wanted o : ReadEnd) → reading.Ran shows hears w.limits w.cells first last old new wanted → EndsAs wanted o b → Ran w first last s.held b.held kept.now missed table.now.layout.uneven o
   ran-ends wanted o r (inl (same, live, empty)) =
       subst (λ x. Ran w first last s.held b.held kept.now missed table.now.layout.uneven x) (sym same) (ran-whole wanted r live empty)
   ran-ends wanted o r (inr (same, fails)) =
@@ -113,7 +113,7 @@ module _ {A : Type 0} (shows : A → Shown → Type 0) (old new : A) (w : Bounds
   heard-some ps qs (inl emitted) = heard-it ps emitted
   heard-some ps qs (inr emitted) = heard-it qs emitted
 
-  heard-all : (o : Outcome) → reading.Ran shows hears w.limits w.cells first last old new o → (all : List Piece) × Shows a table kept missed (said_to all s)
+  heard-all : (o : ReadEnd) → reading.Ran shows hears w.limits w.cells first last old new o → (all : List Piece) × Shows a table kept missed (said_to all s)
   heard-all Done r = heard-it (page_said w.limits w.cells r.bytes) r.emitted
   heard-all (ReadFault at) r = heard-it (said_so_far w.limits w.cells r.bytes) r.emitted
   heard-all TooLong r = heard-it (said_so_far w.limits w.cells r.bytes) r.emitted
@@ -125,7 +125,7 @@ live_before false g h i v w xs sends live = refl
 live_before true true h i v w xs sends live = live
 live_before true false h i v w xs sends live = absurd sends
 
-faults-emitted : (wanted o : Outcome) (a b : Tape) → Draws a b (Bytes [] ∷ []) → a.failed ≡ reading.is_write_fault wanted → EndsAs wanted o b
+faults-emitted : (wanted o : ReadEnd) (a b : Tape) → Draws a b (Bytes [] ∷ []) → a.failed ≡ reading.is_write_fault wanted → EndsAs wanted o b
     → b.failed ≡ reading.is_write_fault o
 faults-emitted wanted o a b flushed is (inl (same, live, empty)) =
     live ∙ sym (live_before a.failed b.failed a.held b.held a.pending b.pending _ flushed.sends.sends live) ∙ is ∙ ap reading.is_write_fault (sym same)
@@ -136,7 +136,7 @@ faults-counted b c d true counted is = counted ∙ ap (λ (x : Bool). put_counte
 faults-counted b c d false counted is = counted ∙ ap (λ (x : Bool). put_counted_if x c) is
 
 -- what a run comes to, and what stays of what was lent
-pub record RunsTo (w : Bounds) (first last : Option Supply) (s : Shown) (b : Tape) (table : MutBor Setting) (kept : MutBor (Items Complaint)) (missed : Bool) (o : Outcome) : Type 0 where
+pub record RunsTo (w : Bounds) (first last : Option Supply) (s : Shown) (b : Tape) (table : MutBor Setting) (kept : MutBor (Items Complaint)) (missed : Bool) (o : ReadEnd) : Type 0 where
   pub ran : Ran w first last s.held b.held kept.now missed table.now.layout.uneven o
   pub failures : b.failures ≡ put_counted_if (reading.is_write_fault o) s.failures
   pub setting_same : table.ghost_name ≡ s.setting_name
@@ -145,7 +145,7 @@ pub record RunsTo (w : Bounds) (first last : Option Supply) (s : Shown) (b : Tap
   pub room : kept.now.capacity ≡ s.capacity
 
 pub runs_to : {A : Type 0} (shows : A → Shown → Type 0) (old new : A) (w : Bounds) (first last : Option Supply)
-    (s : Shown) (a b : Tape) (table table' : MutBor Setting) (kept kept' : MutBor (Items Complaint)) (missed missed' : Bool) (wanted o : Outcome)
+    (s : Shown) (a b : Tape) (table table' : MutBor Setting) (kept kept' : MutBor (Items Complaint)) (missed missed' : Bool) (wanted o : ReadEnd)
     → Starts shows old w s
     → ((s : Shown) → shows new s → Shows a table kept missed s)
     → Draws a b (Bytes [] ∷ []) → table' ≡ table → IsSame kept missed kept' missed'

@@ -9,7 +9,7 @@ use Rattle.tbl_drawing.specs.Pens.{Bytes}
 use Rattle.tbl_drawing.specs.Tapes.{Tape, Sends, Draws, failed_since}
 use Rattle.tbl_drawing.proofs.Tapes.{draws_nothing, sends_then}
 use Rattle.tbl_reader.specs.declared.complaint.Complaint.{Complaint}
-use Rattle.tbl_reader.specs.declared.running.Outcome.{Outcome}
+use Rattle.tbl_reader.specs.declared.running.ReadEnd.{ReadEnd}
 use Rattle.tbl_reader.specs.Telling.{Piece, heard}
 use Rattle.tbl_setting.specs.Setting.{EndsAs, IsSame, Keeps, KeepsMore, Shown, Shows, first_tape, hears, set, wrongs}
 use Rattle.tbl_setting.specs.Stepping.{AreKept, Sent, pieces_bytes}
@@ -36,7 +36,7 @@ begins all out table kept missed same keeps = record {
 
 -- ---- and then these pieces
 
-sent_so : (wanted o : Outcome) (bytes : List ℕ) (held : Option (List ℕ)) (failures : SinkFailures) (b : Tape)
+sent_so : (wanted o : ReadEnd) (bytes : List ℕ) (held : Option (List ℕ)) (failures : SinkFailures) (b : Tape)
     → Sends (first_tape held failures) b bytes → EndsAs wanted o b → Sent bytes held b.held failures b.failures
 sent_so wanted o bytes held failures b sends (inl (same, live, empty)) =
     inl (
@@ -50,7 +50,7 @@ sent_so wanted o bytes held failures b sends (inr (same, fails)) =
     )
 
 module _ (ps : List Piece) (out a b : Tape) (table table' table'' : MutBor Setting) (kept kept' kept'' : MutBor (Items Complaint)) (missed missed' missed'' : Bool)
-    (wanted o : Outcome)
+    (wanted o : ReadEnd)
     (fresh : out ≡ first_tape out.held out.failures)
     (emitted : (s : Shown) → Shows out table kept missed s → Shows a table' kept' missed' (heard hears ps s))
     (flushed : Draws a b (Bytes [] ∷ []))
@@ -85,7 +85,7 @@ pub record StepsTo (ps : List Piece) (out b : Tape) (table table' : MutBor Setti
   pub room : kept'.now.capacity ≡ kept.now.capacity
 
 pub steps_to : (ps : List Piece) (out a b : Tape) (table table' table'' : MutBor Setting) (kept kept' kept'' : MutBor (Items Complaint)) (missed missed' missed'' : Bool)
-    (wanted o : Outcome)
+    (wanted o : ReadEnd)
     → out ≡ first_tape out.held out.failures
     → ((s : Shown) → Shows out table kept missed s → Shows a table' kept' missed' (heard hears ps s))
     → Draws a b (Bytes [] ∷ []) → table'' ≡ table' → IsSame kept' missed' kept'' missed'' → EndsAs wanted o b

@@ -6,8 +6,8 @@ use Rattle.nr_units.specs.Sink.{AppendsPrefix}
 use Rattle.nr_units.specs.Source.{Supply}
 use Rattle.tbl_reader.specs.declared.complaint.Complaint.{Complaint}
 use Rattle.tbl_reader.specs.declared.reader.Limits.{Limits}
-use Rattle.tbl_reader.specs.declared.running.Outcome.{Outcome}
-use Rattle.tbl_reader.specs.declared.running.Outcome.TheVariants.{Done, ReadFault, TooLong, WriteFault}
+use Rattle.tbl_reader.specs.declared.running.ReadEnd.{ReadEnd}
+use Rattle.tbl_reader.specs.declared.running.ReadEnd.TheVariants.{Done, ReadFault, TooLong, WriteFault}
 use Rattle.tbl_reader.specs.Ending.{first_page, page_said}
 use Rattle.tbl_reader.specs.Pages as reading
 use Rattle.tbl_reader.specs.Pages.{Page}
@@ -85,12 +85,12 @@ pub record IsBroken (b : Bounds) (first last : Option Supply)
       ⊎ PutsPrefix (set_page b bytes) (page_said b.limits b.cells bytes) (page_setting b) held new kept missed uneven
 
 abbrev pub Ran : Bounds → Option Supply → Option Supply → Option (List ℕ) → Option (List ℕ)
-    → Items Complaint → Bool → Bool → Outcome → Type 0
+    → Items Complaint → Bool → Bool → ReadEnd → Type 0
 Ran b first last held new kept missed uneven Done = IsDone b first last held new kept missed uneven
 Ran b first last held new kept missed uneven (ReadFault at) = IsCut b first last held new kept missed uneven at
 Ran b first last held new kept missed uneven TooLong = IsCut b first last held new kept missed uneven 1099511627776
 Ran b first last held new kept missed uneven WriteFault = IsBroken b first last held new kept missed uneven
 
-abbrev pub is_read_fault : Outcome → Bool
+abbrev pub is_read_fault : ReadEnd → Bool
 is_read_fault (ReadFault at) = true
 is_read_fault outcome = false

@@ -7,8 +7,8 @@ use Rattle.nr_vectors.specs.Items.{Items}
 use Rattle.tbl_reader.specs.declared.complaint.Complaint.{Complaint}
 use Rattle.tbl_reader.specs.declared.telling.Tell.{Tell}
 use Rattle.tbl_reader.specs.declared.telling.Tell.TheVariants as tells
-use Rattle.tbl_reader.specs.declared.running.Outcome.{Outcome}
-use Rattle.tbl_reader.specs.declared.running.Outcome.TheVariants.{WriteFault}
+use Rattle.tbl_reader.specs.declared.running.ReadEnd.{ReadEnd}
+use Rattle.tbl_reader.specs.declared.running.ReadEnd.TheVariants.{WriteFault}
 use Rattle.tbl_reader.specs.Telling.{Piece}
 use Rattle.tbl_drawing.specs.Held.{has_begun}
 use Rattle.tbl_drawing.specs.Pens.{Bytes, Stroke, bytes_of, first}
@@ -216,7 +216,7 @@ pub record Shows (tape : Tape) (setting : MutBor Setting) (kept : MutBor (Items 
   pub keeps : Keeps (s.wrong ++ wrongs s.said s.setting) kept.now missed
 
 -- all that waits went out, or the output failed
-abbrev pub EndsAs : Outcome → Outcome → Tape → Type 0
+abbrev pub EndsAs : ReadEnd → ReadEnd → Tape → Type 0
 EndsAs wanted outcome tape =
     ((outcome ≡ wanted) × (tape.failed ≡ false) × (tape.pending ≡ [])) ⊎ ((outcome ≡ WriteFault)
     × (tape.failed ≡ true))

@@ -19,6 +19,6 @@ mod watching;
 pub use drawing::signs_of;
 pub use setting::Setting;
 pub use stepping::{Step, set_next};
-pub use tbl_reader::{Complaint, Kind, Outcome};
+pub use tbl_reader::{Complaint, Kind, ReadEnd};
 pub use tbl_table::{Joints, Signs};
 pub use turning::{Report, Rooms, convert};

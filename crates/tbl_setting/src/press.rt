@@ -12,7 +12,7 @@ use nr_units::sink::Sink;
 use nr_units::source::Fault;
 use nr_vectors::slice_vec::SliceVec;
 use tbl_drawing::Out;
-use tbl_reader::{Complaint, Outcome, Setter, Tell};
+use tbl_reader::{Complaint, ReadEnd, Setter, Tell};
 
 /// What is set, what goes out, and what is wrong.
 #[derive(Drop)]
@@ -207,7 +207,7 @@ impl<'t, 'p, 'k, 'c, W: Sink> Press<'t, 'p, 'k, 'c, W> {
     }
 
     /// All that waits goes out, and the run has ended so.
-    pub(crate) fn ends(&mut self, outcome: Outcome) -> Outcome
+    pub(crate) fn ends(&mut self, outcome: ReadEnd) -> ReadEnd
         ensures draws { Draws self.old.out self.new.out (Bytes [] ∷ []) }
         ensures setting { self.new.setting ≡ self.old.setting }
         ensures ends { EndsAs outcome result self.new.out }
@@ -215,7 +215,7 @@ impl<'t, 'p, 'k, 'c, W: Sink> Press<'t, 'p, 'k, 'c, W> {
     {
         match self.out.flush() {
             Ok(()) => outcome,
-            Err(Fault) => Outcome::WriteFault,
+            Err(Fault) => ReadEnd::WriteFault,
         }
     }
 }

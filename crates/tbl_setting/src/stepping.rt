@@ -11,7 +11,7 @@ use super::setting::Setting;
 use nr_units::sink::Sink;
 use nr_vectors::slice_vec::SliceVec;
 use tbl_drawing::Out;
-use tbl_reader::{Complaint, Outcome, Reader};
+use tbl_reader::{Complaint, ReadEnd, Reader};
 
 /// What is left of a step.
 pub struct Step<W> {
@@ -45,7 +45,7 @@ fn read_and_set<W: Sink>(
     ensures room { press.new.complaints.now.capacity ≡ press.old.complaints.now.capacity }
 {
     reader.read_next(next, press);
-    press.ends(Outcome::Done);
+    press.ends(ReadEnd::Done);
 }
 
 /// What comes next of a page is read, a byte or the end, where there is none; what it says is set, and what goes out for it

@@ -18,7 +18,7 @@ use nr_vectors::{CountedAlloc, FixedVec};
 use std::alloc::AllocError;
 use std::marker::Model;
 use tbl_drawing::Out;
-use tbl_reader::{Complaint, Limits, Outcome, Reader, read_page};
+use tbl_reader::{Complaint, Limits, ReadEnd, Reader, read_page};
 use tbl_table::Signs;
 use utf8_characters::Table as Characters;
 
@@ -32,7 +32,7 @@ const MOST: usize = 18_446_744_073_709_551_614;
 #[derive(Clone, Copy, Debug, PartialEq, Eq)]
 pub struct Report {
     /// How it ended.
-    pub outcome: Outcome,
+    pub outcome: ReadEnd,
     /// There were more complaints than there was room for.
     pub missed: bool,
     /// A table that was longer than what is held went out in parts, whose columns may differ.
@@ -132,7 +132,7 @@ fn run<R: Source, W: Sink>(
     reader: &mut Reader,
     input: &mut R,
     press: &mut Press<'_, '_, '_, '_, W>,
-) -> Outcome
+) -> ReadEnd
     requires setting { press.old.setting.now ≡ page_setting (specs.bounds_in reader.old press.old.setting.now) }
     requires tape { press.old.out ≡ first_tape press.old.out.held press.old.out.failures }
     requires empty { press.old.complaints.now.items ≡ [] }
@@ -155,7 +155,7 @@ fn run<R: Source, W: Sink>(
 
 /// How a page was turned with parts that are lent, and its output.
 struct Turned<W> {
-    outcome: Outcome,
+    outcome: ReadEnd,
     missed: bool,
     output: W,
 }

@@ -227,7 +227,7 @@ fn end_of(alloc: Global, ran: Ran, complaints: &[Complaint]) -> anyhow::Result<S
         outcome,
         ..
     } = ran;
-    if report.missed || report.outcome != tbl_setting::Outcome::Done || outcome != Outcome::Done {
+    if report.missed || report.outcome != tbl_setting::ReadEnd::Done || outcome != Outcome::Done {
         return Ok(format!(in alloc; "{report:?}, {outcome:?}")?);
     }
     let mut ended = String::new(alloc);

@@ -4,8 +4,8 @@ use Rattle.std.specs.Borrow.{Bor}
 use Rattle.utf8_characters.specs.declared.table.Table.{Table}
 use Rattle.utf8_converter.specs.Cells.{converted}
 use Rattle.utf8_converter.specs.Reading.{fed, first_reader}
-use Rattle.document_stages.specs.declared.running.Outcome.{Outcome}
-use Rattle.document_stages.specs.declared.running.Outcome.TheVariants as outcomes
+use Rattle.document_stages.specs.declared.running.RunEnd.{RunEnd}
+use Rattle.document_stages.specs.declared.running.RunEnd.TheVariants as outcomes
 use Rattle.utf8_own_characters.specs.Table.{Characters}
 use Rattle.utf8_own_sink.specs.Cells as own_sink
 use Rattle.utf8_own_sink.specs.Reading as own_reading
@@ -80,7 +80,7 @@ AsksFor words (Ok Version) job = job ≡ programs.Prints version_line
 AsksFor words (Err wrong) job = job ≡ programs.IsBad (what_of wrong) (word_of words wrong)
 
 -- how a text of this name ended
-abbrev pub ending_of : Bor (List ℕ) → Outcome → Ending
+abbrev pub ending_of : Bor (List ℕ) → RunEnd → Ending
 ending_of name outcomes.Done = Done
 ending_of name (outcomes.ReadFault at) = ReadFault (Some name) at
 ending_of name outcomes.TooLong = TooLong (Some name)

@@ -18,7 +18,7 @@ use nr_units::sink::Sink;
 use nr_units::source::Fault;
 use std::io::Read;
 use utf8_characters::Table;
-use utf8_converter::{Outcome, convert};
+use utf8_converter::{RunEnd, convert};
 
 /// What `--version` prints: that of the file VERSION.
 const VERSION: &str = "0.2.0";
@@ -185,13 +185,13 @@ impl Turns for Turner {
 }
 
 /// How a text of this name ended.
-pub(crate) fn ended(outcome: Outcome, name: &str) -> Ending<'_>
+pub(crate) fn ended(outcome: RunEnd, name: &str) -> Ending<'_>
     ensures { result ≡ ending_of name.entry outcome }
 {
     match outcome {
-        Outcome::Done => Ending::Done,
-        Outcome::TooLong => Ending::TooLong(Some(name)),
-        Outcome::ReadFault { at } => Ending::ReadFault(Some(name), at),
-        Outcome::WriteFault => Ending::WriteFault,
+        RunEnd::Done => Ending::Done,
+        RunEnd::TooLong => Ending::TooLong(Some(name)),
+        RunEnd::ReadFault { at } => Ending::ReadFault(Some(name), at),
+        RunEnd::WriteFault => Ending::WriteFault,
     }
 }

@@ -5,8 +5,8 @@ use Rattle.nr_units.specs.Sink.{AppendsPrefix}
 use Rattle.nr_units.specs.Source.{Supply}
 use Rattle.document_stages.specs.Running as runs
 use Rattle.document_stages.specs.Running.{at_most}
-use Rattle.document_stages.specs.declared.running.Outcome.{Outcome}
-use Rattle.document_stages.specs.declared.running.Outcome.TheVariants.{Done, ReadFault, TooLong, WriteFault}
+use Rattle.document_stages.specs.declared.running.RunEnd.{RunEnd}
+use Rattle.document_stages.specs.declared.running.RunEnd.TheVariants.{Done, ReadFault, TooLong, WriteFault}
 use Rattle.document_stages.proofs.Runs.{Ran-counted, Ran-known}
 use Rattle.utf8_characters.specs.declared.table.Table.{Table}
 use Rattle.utf8_converter.specs.Cells.{strays_of}
@@ -26,7 +26,7 @@ said-says t e false bytes = refl
 -- both agree on what goes out
 Ran-says : (a b : Bool → List ℕ → List ℕ) (counts : Bool → List ℕ → ℕ) (wants : ℕ) (first last : Option Supply) (held new : Option (List ℕ)) (n : ℕ)
     → ((ends : Bool) → (bytes : List ℕ) → a ends bytes ≡ b ends bytes)
-    → (outcome : Outcome) → runs.Ran a counts wants first last held new n outcome → runs.Ran b counts wants first last held new n outcome
+    → (outcome : RunEnd) → runs.Ran a counts wants first last held new n outcome → runs.Ran b counts wants first last held new n outcome
 Ran-says a b counts wants first last held new n same Done ran = record {
   bytes = ran.bytes;
   came = ran.came;
@@ -84,7 +84,7 @@ text_of t e true bytes = converted-text t e bytes
 text_of t e false bytes = fed-text t e bytes
 
 pub ran-of : (t : Table) (e : Bool) (a : Bool → List ℕ → List ℕ) (counts : Bool → List ℕ → ℕ) (wants : ℕ) (first last : Option Supply) (held new : Option (List ℕ))
-    (n k : ℕ) (outcome : Outcome) → a ≡ said (first_reader t e) → counts ≡ counted 0 (first_reader t e) → wants ≡ 1536 → k ≡ n
+    (n k : ℕ) (outcome : RunEnd) → a ≡ said (first_reader t e) → counts ≡ counted 0 (first_reader t e) → wants ≡ 1536 → k ≡ n
     → runs.Ran a counts wants first last held new n outcome → Ran t e first last held new k outcome
 ran-of t e a counts wants first last held new n k outcome p q w same ran =
     let r = first_reader t e in record {

@@ -2,7 +2,7 @@
 use Rattle.std.specs.Prelude.{ℕ, ◌*◌, ◌≤◌, List, length, Bool, true, false, Option}
 use Rattle.nr_units.specs.Source.{Supply}
 use Rattle.document_stages.specs.Running as runs
-use Rattle.document_stages.specs.declared.running.Outcome.{Outcome}
+use Rattle.document_stages.specs.declared.running.RunEnd.{RunEnd}
 use Rattle.utf8_characters.specs.declared.table.Table.{Table}
 use Rattle.utf8_converter.specs.Cells.{converted, strays_of}
 use Rattle.utf8_converter.specs.Lines.{KeepsLines}
@@ -22,7 +22,7 @@ drops table escapes false bytes = (fed (first_reader table escapes) bytes).stray
 -- All of it, or the first of it, came and was turned. Whatever comes, at most four bytes go out for each: a text for a
 -- terminal, in lines of as many cells with the same characters.
 pub record Ran (table : Table) (escapes : Bool) (first last : Option Supply) (held new : Option (List ℕ)) (strays : ℕ)
-    (outcome : Outcome) : Type 0 where
+    (outcome : RunEnd) : Type 0 where
   pub ran : runs.Ran (says table escapes) (drops table escapes) 1536 first last held new strays outcome
   pub few : (bytes : List ℕ) → length (converted table escapes bytes) ≤ 4 * length bytes
   pub lines : (bytes : List ℕ) → KeepsLines table escapes bytes (converted table escapes bytes)

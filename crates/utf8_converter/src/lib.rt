@@ -19,7 +19,7 @@ mod waiting;
 
 pub use came::Came;
 pub use choosing::{CHARACTERS, LOOKED_AT, choose};
-pub use document_stages::Outcome;
+pub use document_stages::RunEnd;
 pub use running::convert;
 pub use showing::Shown;
 pub use staged::Turner;

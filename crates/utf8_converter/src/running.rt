@@ -5,7 +5,7 @@ ghost use Rattle.document_stages.specs.Running.{TellsReads, is_write_fault};
 ghost use Rattle.utf8_converter.specs.Running.{Ran};
 
 use super::staged::Turner;
-use document_stages::{Outcome, run};
+use document_stages::{RunEnd, run};
 use nr_units::sink::Sink;
 use nr_units::source::Source;
 use utf8_characters::Table;
@@ -39,7 +39,7 @@ pub fn convert<R: Source, W: Sink>(
     escapes: bool,
     buffer: &mut [u8],
     strays: &mut u64,
-) -> Outcome
+) -> RunEnd
     requires { 1536 ≤ length buffer.old }
     ensures ran { Ran table escapes (R.supply input.old) (R.supply input.new) (W.held output.old) (W.held output.new)
         strays.new result }

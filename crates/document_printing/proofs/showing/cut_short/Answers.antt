@@ -1,10 +1,10 @@
 use Rattle.std.proofs.Common.{◌≡◌, refl}
-use Rattle.document_printing.specs.declared.setup.Outcome.{Outcome}
-use Rattle.document_printing.specs.declared.setup.Outcome.TheVariants as outcomes
+use Rattle.document_printing.specs.declared.setup.PageEnd.{PageEnd}
+use Rattle.document_printing.specs.declared.setup.PageEnd.TheVariants as outcomes
 use Rattle.document_printing.specs.Showing as specs
 use Rattle.document_printing.proofs.showing.cut_short.Goals as goal
 
-others : (o : Outcome) → (o ≡ outcomes.ReadFault → ⊥) → (o ≡ outcomes.TooLong → ⊥) → outcomes.WriteFault ≡ specs.cut_short o
+others : (o : PageEnd) → (o ≡ outcomes.ReadFault → ⊥) → (o ≡ outcomes.TooLong → ⊥) → outcomes.WriteFault ≡ specs.cut_short o
 others outcomes.Done read long = refl
 others (outcomes.Limit which at) read long = refl
 others outcomes.NoRoom read long = refl

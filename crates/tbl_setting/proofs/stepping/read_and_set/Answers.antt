@@ -1,5 +1,5 @@
 use Rattle.tbl_reader.specs.Ending.{next_read}
-use Rattle.tbl_reader.specs.declared.running.Outcome.TheVariants.{Done}
+use Rattle.tbl_reader.specs.declared.running.ReadEnd.TheVariants.{Done}
 use Rattle.tbl_setting.proofs.Steps.{steps_to}
 use Rattle.tbl_setting.proofs.stepping.read_and_set.Goals as goal
 

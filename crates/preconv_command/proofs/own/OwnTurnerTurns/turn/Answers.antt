@@ -2,7 +2,7 @@ use Rattle.std.proofs.Common.{◌≡◌, ℕ, List, Bool, Option, ap, subst, ◌
 use Rattle.std.specs.Borrow.{Bor}
 use Rattle.nr_units.specs.Source.{Supply, reader_supply}
 use Rattle.document_stages.specs.Running.{Ran}
-use Rattle.document_stages.specs.declared.running.Outcome.{Outcome}
+use Rattle.document_stages.specs.declared.running.RunEnd.{RunEnd}
 use Rattle.preconv_coding.specs.UnderCoding.{text_supply}
 use Rattle.preconv_converter.specs.Reading.{first_reader}
 use Rattle.preconv_converter.specs.Staged.{said}
@@ -26,7 +26,7 @@ both_are table first second one two =
     ap (λ (f : Bool → List ℕ → List ℕ). through f second) one ∙ ap (λ (f : Bool → List ℕ → List ℕ). through (said (first_reader Utf8)) f) two
 
 own_turned : (table : Characters) (name : Bor (List ℕ)) (left : Option (List ℕ)) (one two : Bool → List ℕ → List ℕ) (counts : Bool → List ℕ → ℕ) (wants : ℕ)
-    (first last : Option Supply) (held between new : Option (List ℕ)) (count : ℕ) (outcome : Outcome) (ending : Ending) → one ≡ said (first_reader Utf8)
+    (first last : Option Supply) (held between new : Option (List ℕ)) (count : ℕ) (outcome : RunEnd) (ending : Ending) → one ≡ said (first_reader Utf8)
     → two ≡ coded_text table → first ≡ text_supply (reader_supply left) → Ran (through one two) counts wants first last held between count outcome
     → Ended outcome name between new ending → Turned (own table) (record { name = name.now; left = left }) held new ending
 own_turned table name left one two counts wants first last held between new count outcome ending says_one says_two supply ran =

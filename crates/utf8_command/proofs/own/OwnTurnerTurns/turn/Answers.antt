@@ -2,7 +2,7 @@ use Rattle.std.proofs.Common.{◌≡◌, ℕ, List, Bool, Option, subst}
 use Rattle.std.specs.Borrow.{Bor}
 use Rattle.nr_units.specs.Source.{Supply, reader_supply}
 use Rattle.document_stages.specs.Running.{Ran}
-use Rattle.document_stages.specs.declared.running.Outcome.{Outcome}
+use Rattle.document_stages.specs.declared.running.RunEnd.{RunEnd}
 use Rattle.utf8_own_characters.specs.Table.{Characters}
 use Rattle.utf8_own_sink.specs.Reading.{decoding, first}
 use Rattle.filters.specs.Turning.{Turned}
@@ -12,7 +12,7 @@ use Rattle.utf8_command.proofs.Turns.{failures, turned}
 use Rattle.utf8_command.proofs.own.OwnTurnerTurns.turn.Goals as goal
 
 own_turned : (table : Characters) (escapes : Bool) (name : Bor (List ℕ)) (left : Option (List ℕ)) (says : Bool → List ℕ → List ℕ) (counts : Bool → List ℕ → ℕ)
-    (wants : ℕ) (from last : Option Supply) (held new : Option (List ℕ)) (count : ℕ) (outcome : Outcome) (ending : Ending)
+    (wants : ℕ) (from last : Option Supply) (held new : Option (List ℕ)) (count : ℕ) (outcome : RunEnd) (ending : Ending)
     → says ≡ decoding table (first escapes) → from ≡ reader_supply left → Ran says counts wants from last held new count outcome
     → ending ≡ ending_of name outcome → Turned (own escapes table) (record { name = name.now; left = left }) held new ending
 own_turned table escapes name left says counts wants from last held new count outcome ending is supply ran =
