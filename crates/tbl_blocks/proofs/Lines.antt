@@ -3,6 +3,7 @@ use Rattle.std.proofs.Common.{◌≡◌, ◌==◌, ℕ, suc, ◌+◌, ◌-◌, �
 use Rattle.std.proofs.Math.Seq.{drop-cons, drop-length, take-suc}
 use Rattle.std.proofs.lemmas.List.{get_or-drop, length-drop, length-take-le}
 use Rattle.std.proofs.lemmas.Bool.Decides.{nat_tests}
+use Prim.Native.Char.{code}
 use Rattle.tbl_blocks.specs.declared.blocks.Blocks.{Blocks}
 use Rattle.tbl_blocks.specs.Words.{line_read, lines_from}
 
@@ -36,7 +37,7 @@ choose_false b x y h = ap (λ (c : Bool). if c then x else y) h
 -- ---- steps
 
 -- another byte than a newline belongs to the line
-pub line_goes_on : (text : List ℕ) (from at place : ℕ) (s r : Blocks) → from ≤ at → at < length text → (get_or text at 0 ≡ 10 → ⊥)
+pub line_goes_on : (text : List ℕ) (from at place : ℕ) (s r : Blocks) → from ≤ at → at < length text → (get_or text at 0 ≡ code "\n" → ⊥)
     → lines_from (slice_range text from at) place (drop at text) s ≡ r
     → lines_from (slice_range text from (at + 1)) place (drop (at + 1) text) s ≡ r
 line_goes_on text from at place s r order some other before =
@@ -44,16 +45,16 @@ line_goes_on text from at place s r order some other before =
     let bs : List ℕ = drop (suc at) text in
     let line : List ℕ = slice_range text from at in
     let one : suc at ≡ at + 1 = omega arith in
-    let is : (get_or text at 0 == 10) ≡ false = grind (arith, nat_tests, other) in
+    let is : (get_or text at 0 == code "\n") ≡ false = grind (arith, nat_tests, other) in
     let open_text : lines_from line place (b ∷ bs) s ≡ r = ap (λ (q : List ℕ). lines_from line place q s) (sym (drop-cons text at 0 some)) ∙ before in
     let step : lines_from line place (b ∷ bs) s ≡ lines_from (line ++ b ∷ []) place bs s =
-    choose_false (b == 10) (lines_from [] (place + length line + 1) bs (line_read line place s)) (lines_from (line ++ b ∷ []) place bs s) is in
+    choose_false (b == code "\n") (lines_from [] (place + length line + 1) bs (line_read line place s)) (lines_from (line ++ b ∷ []) place bs s) is in
     let longer : lines_from (slice_range text from (suc at)) place bs s ≡ r =
     ap (λ (q : List ℕ). lines_from q place bs s) (sym (line_more text from at order some)) ∙ (sym step ∙ open_text) in
     ap (λ (q : ℕ). lines_from (slice_range text from q) place (drop q text) s) (sym one) ∙ longer
 
 -- a newline ends it
-pub line_over : (text : List ℕ) (from next at place : ℕ) (s t r : Blocks) → from ≤ at → at < length text → get_or text at 0 ≡ 10 → next ≡ at + 1
+pub line_over : (text : List ℕ) (from next at place : ℕ) (s t r : Blocks) → from ≤ at → at < length text → get_or text at 0 ≡ code "\n" → next ≡ at + 1
     → t ≡ line_read (slice_range text from at) (place + from) s
     → lines_from (slice_range text from at) (place + from) (drop at text) s ≡ r
     → lines_from (slice_range text next (at + 1)) (place + next) (drop (at + 1) text) t ≡ r
@@ -62,12 +63,12 @@ line_over text from next at place s t r order some newline after now before =
     let bs : List ℕ = drop (suc at) text in
     let line : List ℕ = slice_range text from at in
     let one : suc at ≡ at + 1 = omega arith in
-    let is : (get_or text at 0 == 10) ≡ true = ap (λ (q : ℕ). q == 10) newline in
+    let is : (get_or text at 0 == code "\n") ≡ true = ap (λ (q : ℕ). q == code "\n") newline in
     let long : length line ≡ at - from = line_length text from at order (omega (arith, some)) in
     let there : place + from + length line + 1 ≡ place + (at + 1) = omega (arith, long, order) in
     let open_text : lines_from line (place + from) (b ∷ bs) s ≡ r = ap (λ (q : List ℕ). lines_from line (place + from) q s) (sym (drop-cons text at 0 some)) ∙ before in
     let step : lines_from line (place + from) (b ∷ bs) s ≡ lines_from [] (place + from + length line + 1) bs (line_read line (place + from) s) =
-    choose_true (b == 10) (lines_from [] (place + from + length line + 1) bs (line_read line (place + from) s)) (lines_from (line ++ b ∷ []) (place + from) bs s) is in
+    choose_true (b == code "\n") (lines_from [] (place + from + length line + 1) bs (line_read line (place + from) s)) (lines_from (line ++ b ∷ []) (place + from) bs s) is in
     ap (λ (q : ℕ). lines_from (slice_range text q (at + 1)) (place + q) (drop (at + 1) text) t) after
     ∙ (ap (λ (q : List ℕ). lines_from q (place + (at + 1)) (drop (at + 1) text) t) (no_line text (at + 1))
     ∙ (ap (λ (q : ℕ). lines_from [] (place + (at + 1)) (drop q text) t) (sym one)

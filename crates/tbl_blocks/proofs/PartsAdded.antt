@@ -18,7 +18,7 @@ use Rattle.tbl_blocks.specs.Arguments.{argument, blanks_len, first_argument, num
 use Rattle.tbl_blocks.specs.Blocks.{field_read}
 use Rattle.tbl_blocks.specs.Laws.{BlocksAreAdded, FieldsAreAdded, HasNoIndents}
 use Rattle.tbl_blocks.specs.Lists.{added}
-use Rattle.tbl_blocks.specs.Reading.{after_part, breaks, ends_in_space, indented, once_set, paragraph, part_to, parts_before, read_as, reading_of, skipped, space_part, taken, unset, waits_for, word_begun}
+use Rattle.tbl_blocks.specs.Reading.{after_part, breaks, ends_in_space, indented, once_set, paragraph, part_to, parts_before, read_as, reading_of, skipped, space_part, taken, waits_for, word_begun}
 use Rattle.tbl_blocks.specs.Requests.{request_of}
 use Rattle.tbl_blocks.specs.Units.{unit_of}
 use Rattle.tbl_blocks.specs.Words.{argument_read, arguments_from, arguments_read, block_ended, byte_taken, cells_from, face_read, faces_read, goes_on, is_none, is_request, item_read, joined_read, line_as, line_read, lines_from, lines_read, obeyed, part_ended, parted, request_read, tag_ended, tag_taken, text_read, unit_taken, unknown_read, whole_read, with_reading, with_unit, word_at_place, words_from, words_of_line, words_read}
@@ -99,7 +99,7 @@ face_new text place f s =
 
 unknown_new : (text : List ℕ) (place : ℕ) (s : Blocks) → Grows s (unknown_read text place s)
 unknown_new text place s =
-    arguments_new text place (record { first = s.reading.face.font; second = s.reading.face.font; joined = false }) (with_reading (unset s.reading) s)
+    arguments_new text place (record { first = s.reading.face.font; second = s.reading.face.font; joined = false }) s
 
 -- ---- tags
 

@@ -14,7 +14,7 @@ use Rattle.tbl_blocks.specs.Arguments.{argument, blanks_len, first_argument, num
 use Rattle.tbl_blocks.specs.Blocks.{block_read, emptied, field_read, filled, none_of, some_parts}
 use Rattle.tbl_blocks.specs.Filling.{lines_of}
 use Rattle.tbl_blocks.specs.Lists.{added, added_all}
-use Rattle.tbl_blocks.specs.Reading.{after_part, breaks, ends_in_space, indented, once_set, paragraph, part_to, skipped, parts_before, reading_of, space_part, unset, waits_for, word_begun}
+use Rattle.tbl_blocks.specs.Reading.{after_part, breaks, ends_in_space, indented, once_set, paragraph, part_to, skipped, parts_before, reading_of, space_part, waits_for, word_begun}
 use Rattle.tbl_blocks.specs.Requests.{request_of}
 use Rattle.tbl_blocks.specs.Units.{unit_of}
 use Rattle.tbl_blocks.specs.Words.{argument_read, arguments_from, arguments_read, block_ended, byte_taken, cells_from, face_read, faces_read, goes_on, is_none, is_request, item_read, joined_read, line_as, line_read, lines_from, lines_read, obeyed, part_ended, request_read, tag_ended, tag_taken, text_read, unit_taken, unknown_read, whole_read, with_reading, with_unit, word_at_place, words_from, words_of_line, words_read}
@@ -70,7 +70,7 @@ face_room text place f s =
 
 unknown_room : (text : List ℕ) (place : ℕ) (s : Blocks) → emptied (unknown_read text place s) ≡ emptied s
 unknown_room text place s =
-    arguments_room text place (record { first = s.reading.face.font; second = s.reading.face.font; joined = false }) (with_reading (unset s.reading) s)
+    arguments_room text place (record { first = s.reading.face.font; second = s.reading.face.font; joined = false }) s
 
 -- ---- tags
 

@@ -84,7 +84,7 @@ with_blank fills (joins.Fixed n) = blank_as fills (sum n 1)
 with_blank fills join = blank_as fills 1
 
 abbrev pub nothing_seen : Bool → Seen
-nothing_seen spread = record { spread = spread; sure = true; defines = false; unknown = None }
+nothing_seen spread = record { spread = spread; sure = true; defines = false }
 
 abbrev pub reading_of : Font → Bool → Reading
 reading_of f spread = record {
@@ -96,7 +96,6 @@ reading_of f spread = record {
   fills = true;
   ends = false;
   begun = false;
-  line = 0;
   word = word_at 0;
   seen = nothing_seen spread;
 }
@@ -241,9 +240,6 @@ once_left r = face_left r.once r
 abbrev pub waits_for : Font → Reading → Reading
 waits_for f r = record r { once = Some f }
 
-abbrev pub line_read : Reading → Reading
-line_read r = record r { line = sum r.line 1 }
-
 -- ---- requests
 
 abbrev pub margin_set : ℕ → Reading → Reading
@@ -273,14 +269,6 @@ filling_set fills r = breaks 0 (record r { fills = fills })
 
 abbrev pub spreading_set : Bool → Reading → Reading
 spreading_set spread r = record r { seen = record r.seen { spread = spread } }
-
-abbrev pub first_of_lines : Option ℕ → ℕ → Option ℕ
-first_of_lines None line = Some line
-first_of_lines (Some first) line = Some first
-
--- it is reported with its line
-abbrev pub unset : Reading → Reading
-unset r = record r { seen = record r.seen { unknown = first_of_lines r.seen.unknown r.line } }
 
 abbrev pub defining : Reading → Reading
 defining r = record r { seen = record r.seen { defines = true } }
@@ -312,7 +300,6 @@ obeyed requests.Indent argument r = margin_set (number_or 0 argument) r
 obeyed requests.Deeper argument r = margin_set (sum r.margins.margin (number_or r.margins.by argument)) r
 obeyed requests.Back argument r = margin_set (r.margins.margin - r.margins.by) r
 obeyed requests.Defines argument r = defining r
-obeyed requests.Unset argument r = unset r
 obeyed request argument r = r
 
 -- ---- the words of a request

@@ -15,8 +15,8 @@ use Rattle.tbl_blocks.specs.declared.parts.Part.{Part}
 use Rattle.tbl_blocks.specs.Arguments.{argument, blanks_len, first_argument, number_or, request_len, spaces_len}
 use Rattle.tbl_blocks.specs.Parts.{blanks, sum}
 use Rattle.tbl_blocks.specs.Lists.{added}
-use Rattle.tbl_blocks.specs.Reading.{after_part, breaks, ends_in_space, face_of, faced, indented, line_ends, once_left, once_set, paragraph, part_to, parts_before, skipped, space_part, tagged, taken, unset, waits_for, word_at, word_begun}
-use Rattle.tbl_blocks.specs.Reading.{line_read as line_over, obeyed as reading_obeyed}
+use Rattle.tbl_blocks.specs.Reading.{after_part, breaks, ends_in_space, face_of, faced, indented, line_ends, once_left, once_set, paragraph, part_to, parts_before, skipped, space_part, tagged, taken, waits_for, word_at, word_begun}
+use Rattle.tbl_blocks.specs.Reading.{obeyed as reading_obeyed}
 use Rattle.tbl_blocks.specs.Requests.{is_set, request_of}
 use Rattle.tbl_blocks.specs.Units.{unit_of}
 
@@ -119,7 +119,7 @@ face_read text place f s =
 abbrev pub unknown_read : List ℕ → ℕ → Blocks → Blocks
 unknown_read text place s =
     let f = s.reading.face.font in
-    let t = arguments_read text place (record { first = f; second = f; joined = false }) (with_reading (unset s.reading) s) in
+    let t = arguments_read text place (record { first = f; second = f; joined = false }) s in
     with_reading (line_ends (faced s.reading.face t.reading)) t
 
 -- ---- tags: the first word of `.IP`, whose second says what text after it is indented, or the next line of `.TP` that prints
@@ -160,12 +160,12 @@ obeyed requests.Unknown text place s = unknown_read text place s
 obeyed request text place s = with_reading (reading_obeyed request (first_argument text) s.reading) s
 
 -- a name after blanks, and its arguments
-abbrev pub name_in : List ℕ → List ℕ
-name_in text = take (request_len text) text
+abbrev pub request_word : List ℕ → List ℕ
+request_word text = take (request_len text) text
 
 abbrev pub named_read : List ℕ → ℕ → Blocks → Blocks
 named_read text place s =
-    obeyed (request_of (name_in text)) (drop (request_len text) text) (place + request_len text) s
+    obeyed (request_of (request_word text)) (drop (request_len text) text) (place + request_len text) s
 
 abbrev pub request_read : List ℕ → ℕ → Blocks → Blocks
 request_read line place s = named_read (drop (blanks_len line) line) (place + blanks_len line) s
@@ -178,7 +178,7 @@ is_request (b ∷ bs) = (b == code ".") || (b == code "'")
 
 -- the name of the request of a line
 abbrev pub request_name : List ℕ → List ℕ
-request_name line = name_in (drop (blanks_len (drop 1 line)) (drop 1 line))
+request_name line = request_word (drop (blanks_len (drop 1 line)) (drop 1 line))
 
 -- A line is that of a request that isn't set here.
 abbrev pub is_unset : List ℕ → Bool
@@ -190,8 +190,7 @@ line_as request line place s =
 
 abbrev pub line_read : List ℕ → ℕ → Blocks → Blocks
 line_read line place s =
-    let t = tag_taken s.reading.tag (length s.parts.items) (line_as (is_request line) line place s) in
-    with_reading (line_over t.reading) t
+    tag_taken s.reading.tag (length s.parts.items) (line_as (is_request line) line place s)
 
 -- a line so far, which begins at a place, and what follows it
 abbrev pub lines_from : List ℕ → ℕ → List ℕ → Blocks → Blocks

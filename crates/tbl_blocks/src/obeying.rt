@@ -121,23 +121,6 @@ impl Reading {
         }
     }
 
-    /// A request is not set here.
-    pub(crate) fn unset(self) -> Reading
-        ensures { result ≡ specs.unset self }
-    {
-        let unknown = match self.seen.unknown {
-            None => Some(self.line),
-            Some(line) => Some(line),
-        };
-        Reading {
-            seen: Seen {
-                unknown,
-                ..self.seen
-            },
-            ..self
-        }
-    }
-
     /// What prints is defined or asked for.
     fn defining(self) -> Reading
         ensures { result ≡ specs.defining self }
@@ -186,7 +169,6 @@ impl Reading {
             Request::Deeper => self.margin(margin.saturating_add(number_or(argument, by))),
             Request::Back => self.margin(margin.saturating_sub(by)),
             Request::Defines => self.defining(),
-            Request::Unset => self.unset(),
             _ => self,
         }
     }

@@ -90,8 +90,6 @@ pub struct Seen {
     pub sure: bool,
     /// It defines strings or registers, or asks for them.
     pub defines: bool,
-    /// The first of its lines, counted from 0, whose request is not known here: its words are printed.
-    pub unknown: Option<usize>,
 }
 
 /// How many cells a text takes.

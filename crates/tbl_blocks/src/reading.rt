@@ -87,8 +87,6 @@ pub(crate) struct Reading {
     pub ends: bool,
     /// It has a part.
     pub begun: bool,
-    /// How many lines were read.
-    pub line: usize,
     /// The word under way.
     pub word: Word,
     /// What was seen of it.
@@ -187,7 +185,6 @@ impl Seen {
             spread,
             sure: true,
             defines: false,
-            unknown: None,
         }
     }
 }
@@ -230,7 +227,6 @@ impl Reading {
             fills: true,
             ends: false,
             begun: false,
-            line: 0,
             word: Word::at(0),
             seen: Seen::nothing(spread),
         }
@@ -481,16 +477,6 @@ impl Reading {
                 indent: 0,
             },
             ..Part::nothing()
-        }
-    }
-
-    /// A line was read.
-    pub(crate) fn line_read(self) -> Reading
-        ensures { result ≡ specs.line_read self }
-    {
-        Reading {
-            line: self.line.saturating_add(1),
-            ..self
         }
     }
 }

@@ -32,8 +32,8 @@ fn is_request(line: &[u8]) -> bool
 }
 
 /// The name that a text begins with.
-fn name_in(text: &[u8]) -> &[u8]
-    ensures { result.now ≡ specs.name_in text.now }
+fn request_word(text: &[u8]) -> &[u8]
+    ensures { result.now ≡ specs.request_word text.now }
 {
     &text[..request_len(text)]
 }
@@ -44,7 +44,7 @@ pub fn request_name(line: &[u8]) -> &[u8]
 {
     match line.split_first() {
         None => line,
-        Some((_first, rest)) => name_in(&rest[blanks_len(rest)..]),
+        Some((_first, rest)) => request_word(&rest[blanks_len(rest)..]),
     }
 }
 
@@ -218,7 +218,6 @@ impl Blocks {
             second: face.font,
             joined: false,
         };
-        self.reading = self.reading.unset();
         self.read_arguments(text, place, manner);
         self.reading = self.reading.faced(face).line_ends();
     }
@@ -321,7 +320,6 @@ impl Blocks {
         let tag = self.reading.tag;
         self.read_as(line, place);
         self.take_tag(tag, first);
-        self.reading = self.reading.line_read();
     }
 
     /// The lines of a block.

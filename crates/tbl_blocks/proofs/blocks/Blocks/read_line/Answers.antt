@@ -1,17 +1,12 @@
-use Rattle.std.proofs.Common.{◌≡◌, ℕ, length, ap, ◌∙◌}
+use Rattle.std.proofs.Common.{ℕ, length, ap, ◌∙◌}
 use Rattle.tbl_blocks.specs.declared.blocks.Blocks.{Blocks}
-use Rattle.tbl_blocks.specs.declared.reading.Reading.{Reading}
-use Rattle.tbl_blocks.specs.Reading.{line_read as line_over}
-use Rattle.tbl_blocks.specs.Words.{is_request, line_as, tag_taken, with_reading}
+use Rattle.tbl_blocks.specs.Words.{is_request, line_as, tag_taken}
 use Rattle.tbl_blocks.proofs.blocks.Blocks.read_line.Goals as goal
 
 pub returns : goal.returns
 returns c =
     let s = c.args.self.now in
     let read : Blocks = line_as (is_request c.args.line.now) c.args.line.now c.args.place s in
-    let taken : c.take_tag.new.self ≡ tag_taken s.reading.tag (length s.parts.items) read =
     c.take_tag.ensures
     ∙ ap (λ (x : Blocks). tag_taken s.reading.tag c.len-first.result x) c.read_as.ensures
-    ∙ ap (λ (n : ℕ). tag_taken s.reading.tag n read) c.len-first.ensures.value in
-    ap (λ (r : Reading). with_reading r c.take_tag.new.self) c.line_read-self.ensures
-    ∙ ap (λ (x : Blocks). with_reading (line_over x.reading) x) taken
+    ∙ ap (λ (n : ℕ). tag_taken s.reading.tag n read) c.len-first.ensures.value
