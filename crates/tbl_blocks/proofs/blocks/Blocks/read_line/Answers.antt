@@ -1,4 +1,4 @@
-use Rattle.std.proofs.Common.{ℕ, length, ap, ◌∙◌}
+use Rattle.std.proofs.Common.{ℕ, ap, ◌∙◌}
 use Rattle.tbl_blocks.specs.declared.blocks.Blocks.{Blocks}
 use Rattle.tbl_blocks.specs.Words.{is_request, line_as, tag_taken}
 use Rattle.tbl_blocks.proofs.blocks.Blocks.read_line.Goals as goal
