@@ -1,5 +1,5 @@
 -- Numbers below others, and what both of two have.
-use Rattle.std.proofs.Common.{◌≡◌, ℕ, ◌+◌, ◌<◌, ◌≤◌, nat_lt, Bool, true, false, refl, arith, inl, inr, if◌then◌else◌}
+use Rattle.std.proofs.Common.{◌≡◌, ◌≢◌, ℕ, ◌+◌, ◌<◌, ◌≤◌, nat_lt, Bool, true, false, refl, arith, inl, inr, if◌then◌else◌}
 use Rattle.std.specs.Prelude.{◌⊎◌}
 use Rattle.std.proofs.lemmas.Bool.Decides.{nat_tests}
 
@@ -26,6 +26,16 @@ below_or i n = choose (nat_lt i n) refl
     choose : (b : Bool) → nat_lt i n ≡ b → (i < n) ⊎ (n ≤ i)
     choose true e = inl (below_by i n e)
     choose false e = inr (not_below_by i n e)
+
+pub equal_or : (i n : ℕ) → (i ≡ n) ⊎ (i ≢ n)
+equal_or i n =
+    elim (below_or i n) [
+      | inl less ↦ inr (λ e. omega (arith, less, e))
+      | inr least ↦ elim (below_or n i) [
+        | inl more ↦ inr (λ e. omega (arith, more, e))
+        | inr most ↦ inl (omega (arith, least, most))
+      ]
+    ]
 
 -- a choice has what both have
 pub by_cases : {T : Type 0} (P : T → Type 0) (b : Bool) (x y : T) → (b ≡ true → P x) → (b ≡ false → P y) → P (if b then x else y)

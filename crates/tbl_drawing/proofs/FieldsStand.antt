@@ -1,13 +1,17 @@
 -- Each line of a field stands on one of the lines of a table that goes out.
-use Rattle.std.proofs.Common.{◌≡◌, ℕ, suc, ◌+◌, ◌*◌, ◌<◌, ◌≤◌, min, Bool, true, false, ◌==◌, ◌&&◌, not, length, get_or, Option, None, Some, refl, sym, ap, subst, arith, ◌∙◌, inl, inr, if◌then◌else◌}
+use Rattle.std.specs.Prelude.{◌⊎◌}
+use Rattle.std.proofs.Common.{◌≡◌, ℕ, zero, suc, ◌+◌, ◌*◌, ◌<◌, ◌≤◌, min, Bool, true, false, ◌==◌, ◌&&◌, not, length, get_or, Option, None, Some, refl, sym, ap, subst, arith, ◌∙◌, inl, inr, if◌then◌else◌}
+use Rattle.std.proofs.lemmas.Bool.Decides.{nat_tests}
+use Rattle.std.proofs.lemmas.List.{get_or_past}
 use Rattle.nr_vectors.specs.Items.{Items}
+use Rattle.tbl_columns.specs.declared.grid.Block.{Block}
 use Rattle.tbl_columns.specs.declared.grid.Cell.{Cell}
 use Rattle.tbl_columns.specs.declared.grid.Column.{Column}
 use Rattle.tbl_columns.specs.declared.grid.Grid.{Grid}
 use Rattle.tbl_columns.specs.declared.grid.Placed.{Placed}
 use Rattle.tbl_columns.specs.Cells.{placed_cells}
 use Rattle.tbl_columns.specs.Columns.{columns_read, is_given, read_column}
-use Rattle.tbl_columns.specs.Held.{block_in, cell_number, cell_of, columns, forgotten_cells, height_of, no_place, rows_in}
+use Rattle.tbl_columns.specs.Held.{block_in, cell_number, cell_of, columns, forgotten_cells, height_of, no_block, no_place, rows_in}
 use Rattle.tbl_columns.specs.Measured.{measured_part, measured_table, placed_table}
 use Rattle.tbl_columns.proofs.Turns.{turn_has}
 use Rattle.tbl_drawing.specs.declared.layout.Layout.{Layout}
@@ -21,12 +25,15 @@ use Rattle.tbl_drawing.specs.Laws.{FieldsStandOnce, IsRead, StandsBeside, Stands
 use Rattle.tbl_drawing.specs.Steps.{lines_taken, steps_taken, walked}
 use Rattle.tbl_drawing.specs.Tables.{columns_opened, columns_renewed, columns_stand, measured, part_measured, placed, ready, table_measured}
 use Rattle.tbl_drawing.proofs.Below.{below_or, by_cases}
+use Rattle.tbl_drawing.proofs.BlocksFit.{block_found}
+use Rattle.tbl_drawing.proofs.GoneDown.{GoesDown, all_go_down}
 use Rattle.tbl_drawing.proofs.Kept.{Keeps, blocks_read_keeps, keeps_then, part_keeps, table_keeps}
 use Rattle.tbl_drawing.proofs.Once.{IsPlaced, Reached, steps_reached}
-use Rattle.tbl_drawing.proofs.OnceStands.{Fits, HasLines, placed_once}
+use Rattle.tbl_drawing.proofs.OnceStands.{Fits, HasLines, LineFound, placed_once}
 use Rattle.tbl_drawing.proofs.PlacedRows.{Begins, InRange, RowsPlaced, all_placed, within}
-use Rattle.tbl_drawing.proofs.RowHeights.{Raised, all_raised, heights_are, heights_count, heights_fit, heights_lines}
+use Rattle.tbl_drawing.proofs.RowHeights.{Raised, all_raised, heights_are, heights_count, heights_fit, heights_lines, heights_plain}
 use Rattle.tbl_drawing.proofs.RowPlaced.{entry, most}
+use Rattle.tbl_drawing.proofs.RowsCovered.{Over}
 use Rattle.tbl_table.specs.declared.table.Item.TheVariants as items
 use Rattle.tbl_table.specs.declared.table.Table.{Table}
 use Rattle.tbl_table.specs.Held.{item, none_of}
@@ -99,6 +106,12 @@ record Stands (l x : Layout) : Type 0 where
   places : length x.grid.placed.items ≡ min (length l.grid.table.rows.items) l.grid.placed.capacity
   ranges : length l.grid.table.rows.items ≤ l.grid.placed.capacity → (n : ℕ) → n < length x.grid.cells.items
       → ((cell_of x.grid n).top < length x.grid.placed.items) × InRange x.grid n
+  read : IsRead x.grid.table
+  over : length l.grid.table.rows.items ≤ l.grid.placed.capacity → (n : ℕ) → n < length x.grid.cells.items → Over x.grid n
+
+wide_by : (k w : ℕ) → 0 < w → k ≤ k * w
+wide_by k zero h = absurd (let no : ⊥ = omega (arith, h) in no)
+wide_by k (suc w) h = omega arith
 
 stands : (l m x : Layout) → IsRead l.grid.table → Ready l m x → length l.grid.table.rows.items * columns m.grid ≤ l.grid.numbers.capacity
     → l.grid.numbers.capacity ≤ most → Stands l x
@@ -120,6 +133,11 @@ stands l m x r q fits small =
     let rows : length u.table.rows.items ≡ length l.grid.table.rows.items = ap (λ (t : Table). length t.rows.items) table in
     let items_are : (i : ℕ) → item u.table i ≡ item l.grid.table i = λ i. ap (λ (t : Table). item t i) table in
     let begins : (n : ℕ) → n < length u.cells.items → Begins w k a n = λ n inside. p.begins n (omega (arith, inside, q.kept.count)) in
+    let cap : a.placed.capacity ≡ l.grid.placed.capacity = p.places ∙ ap (λ (ps : Items Placed). ps.capacity) q.opens.places in
+    let owned : (n : ℕ) → n < length u.cells.items → (get_or u.placed.items (cell_of u n).top no_place).own ≡ true = λ n inside.
+    ap (λ (i : ℕ). (get_or u.placed.items i no_place).own) (q.kept.tops n)
+    ∙ ap (λ (ps : Items Placed). (get_or ps.items (cell_of a n).top no_place).own) q.kept.placed
+    ∙ (begins n inside).3 in
     record {
       is_placed = record {
         first = λ n inside.
@@ -132,10 +150,7 @@ stands l m x r q fits small =
             ∙ ap (λ (xs : Items ℕ). entry xs (sum (min (f.top * w) most) f.first)) q.kept.numbers
             ∙ ap (entry a.numbers) (let is : sum (min (f.top * w) most) f.first ≡ f.top * w + f.first = omega (arith, less, fit, few) in is)
             ∙ o.2;
-        own = λ n inside.
-            ap (λ (i : ℕ). (get_or u.placed.items i no_place).own) (q.kept.tops n)
-            ∙ ap (λ (ps : Items Placed). (get_or ps.items (cell_of a n).top no_place).own) q.kept.placed
-            ∙ (begins n inside).3;
+        own = owned;
         among = λ n inside.
             let o : Begins w k a n = begins n inside in
             let i = r.among (cell_of a n).top (omega (arith, o.0, rows_are)) in
@@ -152,7 +167,6 @@ stands l m x r q fits small =
           ∙ ap (λ (c : ℕ). min (length l.grid.table.rows.items) c) (p.places ∙ ap (λ (ps : Items Placed). ps.capacity) q.opens.places);
       ranges = λ wide n inside.
           let o : Begins w k a n = begins n inside in
-          let cap : a.placed.capacity ≡ l.grid.placed.capacity = p.places ∙ ap (λ (ps : Items Placed). ps.capacity) q.opens.places in
           let i : InRange a n = p.ranges n (omega (arith, inside, q.kept.count)) (omega (arith, o.0, rows_are, wide, cap)) in
           let is : get_or u.placed.items (cell_of u n).top no_place ≡ get_or a.placed.items (cell_of a n).top no_place =
           ap (λ (t : ℕ). get_or u.placed.items t no_place) (q.kept.tops n)
@@ -160,6 +174,31 @@ stands l m x r q fits small =
             omega (arith, q.kept.tops n, o.0, rows_are, wide, cap, p.count, ap (λ (ps : Items Placed). length ps.items) q.kept.placed),
             (omega (arith, i.0, ap (λ (y : Placed). y.cells) is), omega (arith, i.1, ap (λ (y : Placed). y.cells_end) is)),
           );
+      read = subst IsRead (sym table) r;
+      over = λ wide n inside.
+          let o : GoesDown w k a n = all_go_down g (fit, few) (omega (arith, wide, rows_are, cap, p.places)) n (omega (arith, inside, q.kept.count)) in
+          let b : Begins w k a n = begins n inside in
+          let f : Cell = cell_of a n in
+          let broad : k ≤ k * w = wide_by k w (omega (arith, b.1)) in
+          record {
+            order = omega (arith, o.span.0, q.kept.tops n, q.kept.bottoms n);
+            inside = omega (arith, o.span.1, q.kept.bottoms n, rows, rows_are);
+            small = omega (arith, o.span.1, q.kept.bottoms n, broad, fit, few);
+            first = omega (arith, b.1, q.kept.firsts n, same);
+            stands = λ t low high.
+                let under : t < k = omega (arith, high, o.span.1, q.kept.bottoms n) in
+                let less : t * w + f.first < k * w = within w k t f.first under b.1 in
+                ap (λ (i : ℕ). cell_number u t i) (q.kept.firsts n)
+                ∙ ap (λ (c : ℕ). entry u.numbers (sum (min (t * c) most) f.first)) same
+                ∙ ap (λ (xs : Items ℕ). entry xs (sum (min (t * w) most) f.first)) q.kept.numbers
+                ∙ ap (entry a.numbers) (let is : sum (min (t * w) most) f.first ≡ t * w + f.first = omega (arith, less, fit, few) in is)
+                ∙ o.span.2 t (omega (arith, low, q.kept.tops n)) (omega (arith, high, q.kept.bottoms n));
+            own =
+                ap (λ (i : ℕ). (get_or u.placed.items i no_place).own) (q.kept.bottoms n)
+                ∙ ap (λ (ps : Items Placed). (get_or ps.items f.bottom no_place).own) q.kept.placed
+                ∙ o.own;
+            begins = owned n inside;
+          };
     }
 
 -- ---- rows have their heights
@@ -222,13 +261,28 @@ one_line : (g : Grid) (f : Cell) → (b : Option ℕ) → is_given b ≡ false �
 one_line g f None e = refl
 one_line g f (Some p) e = cc
 
-right : (a b : Bool) → (a && b) ≡ false → a ≡ true → b ≡ false
-right true b e h = e
-right false b e h = cc
+both : (a b : Bool) → a ≡ true → b ≡ true → (a && b) ≡ true
+both true b h k = k
+both false b h k = h
 
-field_fits : (x t : Layout) (n k : ℕ) → Laid x t → n < length x.grid.cells.items → k < height_of x.grid (cell_of x.grid n)
-    → ((cell_of x.grid n).falls && is_given (cell_of x.grid n).block) ≡ false → Fits t n k
-field_fits x t n k d inside less alone =
+right : (a b : Bool) → (a && b) ≡ true → b ≡ true
+right true b h = h
+right false b h = absurd (differ h)
+  where
+    differ : false ≡ true → ⊥
+    differ e = cc
+
+-- where no block is held
+no_lines : (g : Grid) → length g.texts.items ≡ 0 → (b : Option ℕ) → is_given b ≡ true → rows_in (block_in g b) ≡ 0
+no_lines g none None e = absurd (differ e)
+  where
+    differ : false ≡ true → ⊥
+    differ e = cc
+no_lines g none (Some p) e = ap (λ (b : Block). b.rows) (get_or_past g.texts.items p no_block (omega (arith, none)))
+
+field_fits : (x t : Layout) (ends : Bool) (n k : ℕ) → Laid x t → n < length x.grid.cells.items → k < height_of x.grid (cell_of x.grid n)
+    → (((cell_of x.grid n).falls && is_given (cell_of x.grid n).block) ≡ true → LineFound (steps_taken ends t) n k) → Fits t ends n k
+field_fits x t ends n k d inside less found =
     let g : Grid = x.grid in
     let f : Cell = cell_of g n in
     let is : cell_of t.grid n ≡ f = ap (λ (h : Grid). cell_of h n) d.grid in
@@ -243,14 +297,22 @@ field_fits x t n k d inside less alone =
           ];
       goes = λ e.
           let falls : f.falls ≡ true = ap (λ (c : Cell). c.falls) (sym is) ∙ e in
-          let none : is_given f.block ≡ false = right f.falls (is_given f.block) alone falls in
-          let one : height_of g f ≡ 1 = one_line g f f.block none in
-          (ap (λ (c : Cell). is_given c.block) is ∙ none, omega (arith, one, less));
+          let given : is_given (cell_of t.grid n).block ≡ is_given f.block = ap (λ (c : Cell). is_given c.block) is in
+          choose falls given (is_given f.block) refl;
     }
+  where
+    choose : (cell_of x.grid n).falls ≡ true → is_given (cell_of t.grid n).block ≡ is_given (cell_of x.grid n).block
+        → (b : Bool) → is_given (cell_of x.grid n).block ≡ b
+        → ((is_given (cell_of t.grid n).block ≡ false) × (k ≡ 0)) ⊎ ((is_given (cell_of t.grid n).block ≡ true) × LineFound (steps_taken ends t) n k)
+    choose falls given true e =
+        inr (given ∙ e, found (both (cell_of x.grid n).falls (is_given (cell_of x.grid n).block) falls e))
+    choose falls given false e =
+        let one : height_of x.grid (cell_of x.grid n) ≡ 1 = one_line x.grid (cell_of x.grid n) (cell_of x.grid n).block e in
+        inl (given ∙ e, omega (arith, one, less))
 
 laid_once : (x t : Layout) (ends : Bool) (n k : ℕ) → IsPlaced x.grid → Laid x t → 4 * length x.grid.table.items.items + 4 ≤ x.steps.capacity
     → sum (walked ends t).walk.line (walked ends t).walk.more < 18446744073709551615
-    → length x.grid.cells.items ≤ x.begins.capacity → n < length x.grid.cells.items → Fits t n k
+    → length x.grid.cells.items ≤ x.begins.capacity → n < length x.grid.cells.items → Fits t ends n k
     → StandsOnce (lines_settled (steps_taken ends t)) n k
 laid_once x t ends n k p d room few begins inside fits =
     placed_once t ends n k (subst IsPlaced (sym d.grid) p)
@@ -318,20 +380,40 @@ measured_once x b n k s = record {
     }
 
 -- by fields of their own rows, or by blocks that go on over several, too
-settled_once : (x : Layout) (ends : Bool) (n k : ℕ) → IsPlaced x.grid → 4 * length x.grid.table.items.items + 4 ≤ x.steps.capacity → Laid x (heights_read x)
+settled_once : (x : Layout) (ends : Bool) (n k : ℕ) → IsPlaced x.grid → IsRead x.grid.table → ((i : ℕ) → i < length x.grid.cells.items → Over x.grid i)
+    → 4 * length x.grid.table.items.items + 4 ≤ x.steps.capacity → Laid x (heights_read x)
     → length x.grid.cells.items ≤ x.begins.capacity → n < length x.grid.cells.items → k < height_of x.grid (cell_of x.grid n)
-    → ((cell_of x.grid n).falls && is_given (cell_of x.grid n).block) ≡ false
-    → (b : Bool) → (if b then lines_taken ends (heights_read x) else lines_taken ends (rows_raised (first_heights ends x))) < 18446744073709551615
+    → (b : Bool) → b ≡ (length x.grid.texts.items == 0) → (if b then lines_taken ends (heights_read x) else lines_taken ends (rows_raised (first_heights ends x))) < 18446744073709551615
     → StandsOnce (lines_settled (if b then first_heights ends x else steps_taken ends (rows_raised (first_heights ends x)))) n k
-settled_once x ends n k p room own begins inside less alone true few =
-    laid_once x (heights_read x) ends n k p own room few begins inside (field_fits x (heights_read x) n k own inside less alone)
-settled_once x ends n k p room own begins inside less alone false few =
+settled_once x ends n k p read over room own begins inside less true texts few =
+    let none : length x.grid.texts.items ≡ 0 = no_texts (length x.grid.texts.items) (sym texts) in
+    laid_once x (heights_read x) ends n k p own room few begins inside
+    (field_fits x (heights_read x) ends n k own inside less
+    (λ e.
+    let rows : height_of x.grid (cell_of x.grid n) ≡ 0 =
+    no_lines x.grid none (cell_of x.grid n).block (right (cell_of x.grid n).falls (is_given (cell_of x.grid n).block) e) in
+    absurd (let no : ⊥ = omega (arith, rows, less) in no)))
+  where
+    no_texts : (m : ℕ) → (m == 0) ≡ true → m ≡ 0
+    no_texts m h = grind (arith, nat_tests, h)
+settled_once x ends n k p read over room own begins inside less false texts few =
     let raised : Laid x (rows_raised (first_heights ends x)) = by_blocks x ends p room own in
+    let t : Layout = heights_read x in
+    let grid : x.grid ≡ t.grid = sym own.grid in
     laid_once x (rows_raised (first_heights ends x)) ends n k p raised room few begins inside
-    (field_fits x (rows_raised (first_heights ends x)) n k raised inside less alone)
+    (field_fits x (rows_raised (first_heights ends x)) ends n k raised inside less
+    (λ e.
+    block_found t ends n k (subst IsPlaced grid p) (subst (λ (g : Grid). IsRead g.table) grid read)
+    (λ i low. subst (λ (g : Grid). Over g i) grid (over i (omega (arith, low, ap (λ (g : Grid). length g.cells.items) grid))))
+    (omega (arith, own.talls, ap (λ (g : Grid). length g.table.rows.items) grid))
+    (omega (arith, room, own.steps, ap (λ (g : Grid). length g.table.items.items) grid))
+    (heights_plain x) (omega (arith, inside, ap (λ (g : Grid). length g.cells.items) grid))
+    (ap (λ (g : Grid). (cell_of g n).falls && is_given (cell_of g n).block) (sym grid) ∙ e)
+    (omega (arith, less, ap (λ (g : Grid). height_of g (cell_of g n)) grid))
+    (omega (arith, few))))
 
 pub fields_stand_once : FieldsStandOnce
-fields_stand_once l ends n k r h inside less alone =
+fields_stand_once l ends n k r h inside less =
     let x : Layout = ready l in
     let q : Ready l (columns_opened l) x = is_ready l in
     let s : Stands l x = stands l (columns_opened l) x r q h.numbers h.small in
@@ -341,4 +423,4 @@ fields_stand_once l ends n k r h inside less alone =
     let own : Laid x (heights_read x) =
     by_own x (omega (arith, s.rows, s.places, h.placed)) (omega (arith, s.rows, h.talls, ap (λ (ts : Items Tall). ts.capacity) q.talls)) (s.ranges h.placed) in
     measured_once (lines_settled (heights_settled ends x)) (not ends) n k
-    (settled_once x ends n k s.is_placed room own begins inside less alone (length x.grid.texts.items == 0) h.lines)
+    (settled_once x ends n k s.is_placed s.read (s.over h.placed) room own begins inside less (length x.grid.texts.items == 0) refl h.lines)

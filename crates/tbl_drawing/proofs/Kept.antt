@@ -33,6 +33,7 @@ pub record Keeps (t u : Grid) : Type 0 where
   pub tops : (i : ℕ) → (cell_of u i).top ≡ (cell_of t i).top
   pub firsts : (i : ℕ) → (cell_of u i).first ≡ (cell_of t i).first
   pub lasts : (i : ℕ) → (cell_of u i).last ≡ (cell_of t i).last
+  pub bottoms : (i : ℕ) → (cell_of u i).bottom ≡ (cell_of t i).bottom
   pub texts : TextsStand t → TextsStand u
 
 pub keeps_itself : (t : Grid) → Keeps t t
@@ -45,6 +46,7 @@ keeps_itself t = record {
   tops = λ i. refl;
   firsts = λ i. refl;
   lasts = λ i. refl;
+  bottoms = λ i. refl;
   texts = λ stand. stand;
 }
 
@@ -58,6 +60,7 @@ keeps_then a b c p q = record {
   tops = λ i. q.tops i ∙ p.tops i;
   firsts = λ i. q.firsts i ∙ p.firsts i;
   lasts = λ i. q.lasts i ∙ p.lasts i;
+  bottoms = λ i. q.bottoms i ∙ p.bottoms i;
   texts = λ stand. q.texts (p.texts stand);
 }
 
@@ -75,13 +78,14 @@ keeps_put c x t = record {
   tops = λ i. refl;
   firsts = λ i. refl;
   lasts = λ i. refl;
+  bottoms = λ i. refl;
   texts = λ stand. stand;
 }
 
 -- another field in its place
 keeps_cell : (n : ℕ) (x : Cell) (t : Grid) → x.top ≡ (cell_of t n).top → x.first ≡ (cell_of t n).first
-    → x.last ≡ (cell_of t n).last → Keeps t (record t { cells = put n x t.cells })
-keeps_cell n x t top first last = record {
+    → x.last ≡ (cell_of t n).last → x.bottom ≡ (cell_of t n).bottom → Keeps t (record t { cells = put n x t.cells })
+keeps_cell n x t top first last bottom = record {
   table = refl;
   numbers = refl;
   placed = refl;
@@ -90,6 +94,7 @@ keeps_cell n x t top first last = record {
   tops = set_same (λ (c : Cell). c.top) t.cells.items n x no_cell top;
   firsts = set_same (λ (c : Cell). c.first) t.cells.items n x no_cell first;
   lasts = set_same (λ (c : Cell). c.last) t.cells.items n x no_cell last;
+  bottoms = set_same (λ (c : Cell). c.bottom) t.cells.items n x no_cell bottom;
   texts = λ stand. stand;
 }
 
@@ -105,6 +110,7 @@ keeps_as a b c table numbers placed heads cells texts k = record {
   tops = λ i. ap (λ (xs : Items Cell). (get_or xs.items i no_cell).top) cells ∙ k.tops i;
   firsts = λ i. ap (λ (xs : Items Cell). (get_or xs.items i no_cell).first) cells ∙ k.firsts i;
   lasts = λ i. ap (λ (xs : Items Cell). (get_or xs.items i no_cell).last) cells ∙ k.lasts i;
+  bottoms = λ i. ap (λ (xs : Items Cell). (get_or xs.items i no_cell).bottom) cells ∙ k.bottoms i;
   texts = λ stand. texts (k.texts stand);
 }
 
@@ -171,7 +177,7 @@ text_keeps : (b : Blocks) (n first word : ℕ) (seen : Seen) (t : Grid) → (Tex
 text_keeps b n first word seen t texts =
     let x : Cell = as_text (length t.texts.items) seen (cell_of t n) in
     keeps_as t (record t { cells = put n x t.cells }) (text_added n first word seen (with_blocks b t)) refl refl refl refl refl texts
-    (keeps_cell n x t refl refl refl)
+    (keeps_cell n x t refl refl refl refl)
 
 read_keeps : (n : ℕ) (t : Grid) → Keeps t (read_at n t)
 read_keeps n t =
@@ -189,7 +195,7 @@ filled_text_keeps n place width t =
     let u : Grid = text_lines (text t place) width t in
     let v : Grid = filled_text n place width t in
     let x : Cell = record (cell_of t n) { width = widest_line (lines_from (length t.blocks.lines.items) u) } in
-    keeps_as t (record t { cells = put n x t.cells }) v refl refl refl refl refl (filled_stands n place width t) (keeps_cell n x t refl refl refl)
+    keeps_as t (record t { cells = put n x t.cells }) v refl refl refl refl refl (filled_stands n place width t) (keeps_cell n x t refl refl refl refl)
 
 filled_in_keeps : (n : ℕ) (block : Option ℕ) (width : ℕ) (t : Grid) → Keeps t (filled_in n block width t)
 filled_in_keeps n None width t = keeps_itself t
@@ -303,7 +309,7 @@ line_kept_keeps n t =
     let f : Cell = cell_of t n in
     let x : Cell = record f { block = None } in
     by_cases (Keeps t) (is_text f.field.form && nat_le (needs f) (span_width t f.first f.last)) (record t { cells = put n x t.cells }) t
-    (λ e. keeps_cell n x t refl refl refl) (λ e. keeps_itself t)
+    (λ e. keeps_cell n x t refl refl refl refl) (λ e. keeps_itself t)
 
 lines_kept_keep : (t : Grid) → Keeps t (lines_kept t)
 lines_kept_keep t = keeps_turn line_kept line_kept_keeps (length t.cells.items) t

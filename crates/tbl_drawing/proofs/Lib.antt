@@ -1,13 +1,16 @@
 pub mod Absent
 pub mod Below
 pub mod Choices
+pub mod BlocksFit
 pub mod Chosen
 pub mod Definitions
 pub mod Ends
 pub mod FieldsStand
+pub mod GoneDown
 pub mod InColumns
 pub mod Joined
 pub mod Kept
+pub mod LinesAdded
 pub mod Nexts
 pub mod Once
 pub mod OnceStands
@@ -16,8 +19,10 @@ pub mod Pieces
 pub mod PlacedRows
 pub mod RowHeights
 pub mod RowPlaced
+pub mod RowsCovered
 pub mod RowsInOrder
 pub mod RowsRead
+pub mod WalkHas
 pub mod Tapes
 pub mod TablesRead
 pub mod TextsStand

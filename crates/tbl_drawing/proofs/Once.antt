@@ -58,16 +58,16 @@ pub record Apart (t : Layout) (ss : List Step) (line : ℕ) : Type 0 where
   pub apart : (i j : ℕ) → i < j → j < length ss → end_of t (at ss i) ≤ (at ss j).line
   pub below : (i : ℕ) → i < length ss → end_of t (at ss i) ≤ line
 
-at_before : (ss : List Step) (s : Step) (i : ℕ) → i < length ss → at (ss ++ s ∷ []) i ≡ at ss i
+pub at_before : (ss : List Step) (s : Step) (i : ℕ) → i < length ss → at (ss ++ s ∷ []) i ≡ at ss i
 at_before ss s i h = get_or-append ss (s ∷ []) no_step i h
 
-at_last : (ss : List Step) (s : Step) → at (ss ++ s ∷ []) (length ss) ≡ s
+pub at_last : (ss : List Step) (s : Step) → at (ss ++ s ∷ []) (length ss) ≡ s
 at_last ss s = get_or-append_seam ss s [] no_step
 
-at_end : (ss : List Step) (s : Step) (i : ℕ) → i ≡ length ss → at (ss ++ s ∷ []) i ≡ s
+pub at_end : (ss : List Step) (s : Step) (i : ℕ) → i ≡ length ss → at (ss ++ s ∷ []) i ≡ s
 at_end ss s i e = ap (at (ss ++ s ∷ [])) e ∙ at_last ss s
 
-more : (ss : List Step) (s : Step) → length (ss ++ s ∷ []) ≡ length ss + 1
+pub more : (ss : List Step) (s : Step) → length (ss ++ s ∷ []) ≡ length ss + 1
 more ss s = length-append ss (s ∷ [])
 
 apart_more : (t : Layout) (ss : List Step) (line : ℕ) (kind : StepKind) → Apart t ss line
@@ -95,16 +95,16 @@ apart_more t ss line kind a =
 
 -- ---- a list of steps with one more
 
-grown_len : (old new : List Step) (s : Step) → new ≡ old ++ s ∷ [] → length new ≡ length old + 1
+pub grown_len : (old new : List Step) (s : Step) → new ≡ old ++ s ∷ [] → length new ≡ length old + 1
 grown_len old new s e = ap length e ∙ more old s
 
-grown_before : (old new : List Step) (s : Step) → new ≡ old ++ s ∷ [] → (i : ℕ) → i < length old → at new i ≡ at old i
+pub grown_before : (old new : List Step) (s : Step) → new ≡ old ++ s ∷ [] → (i : ℕ) → i < length old → at new i ≡ at old i
 grown_before old new s e i h = ap (λ (ss : List Step). at ss i) e ∙ at_before old s i h
 
-grown_last : (old new : List Step) (s : Step) → new ≡ old ++ s ∷ [] → (i : ℕ) → i ≡ length old → at new i ≡ s
+pub grown_last : (old new : List Step) (s : Step) → new ≡ old ++ s ∷ [] → (i : ℕ) → i ≡ length old → at new i ≡ s
 grown_last old new s e i h = ap (λ (ss : List Step). at ss i) e ∙ at_end old s i h
 
-added_items : (s : Step) (xs : Items Step) → length xs.items < xs.capacity → (added s xs).items ≡ xs.items ++ s ∷ []
+pub added_items : (s : Step) (xs : Items Step) → length xs.items < xs.capacity → (added s xs).items ≡ xs.items ++ s ∷ []
 added_items s xs h = fits (nat_lt (length xs.items) xs.capacity) (grind (arith, nat_tests, h))
   where
     fits : (b : Bool) → b ≡ true → (if b then xs.items ++ s ∷ [] else xs.items) ≡ xs.items ++ s ∷ []
@@ -220,7 +220,7 @@ item_same n r e = ap number e
     number (items.Row r) = r
     number i = 0
 
-not_less : {a b : ℕ} → a < b → a ≡ b → ⊥
+pub not_less : {a b : ℕ} → a < b → a ≡ b → ⊥
 not_less h e = omega (arith, h, e)
 
 -- a row has the next step
@@ -397,7 +397,7 @@ item_reached t k lines (items.Row n) w p many inside e h m =
 
 -- ---- all of them
 
-all_reached : (t : Layout) (k : ℕ) (w : Walking) → IsPlaced t.grid → length t.grid.table.rows.items ≤ length t.talls.items
+pub all_reached : (t : Layout) (k : ℕ) (w : Walking) → IsPlaced t.grid → length t.grid.table.rows.items ≤ length t.talls.items
     → k ≤ length t.grid.table.items.items → 4 * length t.grid.table.items.items + 4 ≤ t.steps.capacity → Reached t 0 1 w
     → Reached t k (4 * k + 1) (in_turn k walked_at w)
 all_reached t zero w p many h room m = more_lines t 0 1 (4 * zero + 1) w (omega arith) m
@@ -425,7 +425,7 @@ first_reached t = record {
     none : (i : ℕ) → i < 0 → ⊥
     none i h = omega (arith, h)
 
-begun_reached : (t : Layout) → 4 ≤ t.steps.capacity → Reached t 0 1 (walk_begun (without_steps t))
+pub begun_reached : (t : Layout) → 4 ≤ t.steps.capacity → Reached t 0 1 (walk_begun (without_steps t))
 begun_reached t room =
     let u : Layout = without_steps t in
     if_reached t 0 1 (is_double t.grid.table.looks.frame && not t.begun) (stepped (steps.Edge true) 1 (walking_on u)) (walking_on u)

@@ -256,6 +256,10 @@ once t x n k line on lie few same f is =
 
 -- ---- a line of a field
 
+-- a line of a block that goes on over rows below
+abbrev pub LineFound : Layout → ℕ → ℕ → Type 0
+LineFound v n k = Found v n (cell_of v.grid n).first (line_wanted v (cell_of v.grid n) + k)
+
 -- what is known of it when all lines are
 record Known (t v : Layout) (n k line : ℕ) : Type 0 where
   inside : n < length v.grid.cells.items
@@ -268,7 +272,8 @@ record Known (t v : Layout) (n k line : ℕ) : Type 0 where
   same : (r : ℕ) → lines_of (tall v r) ≡ lines_of (tall t r)
   some : HasLines v
   stays : (cell_of v.grid n).falls ≡ false → k < lines_of (tall v (cell_of v.grid n).top)
-  goes : (cell_of v.grid n).falls ≡ true → (is_given (cell_of v.grid n).block ≡ false) × (k ≡ 0)
+  goes : (cell_of v.grid n).falls ≡ true
+      → ((is_given (cell_of v.grid n).block ≡ false) × (k ≡ 0)) ⊎ ((is_given (cell_of v.grid n).block ≡ true) × LineFound v n k)
 
 known_counted : (t v : Layout) (n k line : ℕ) → Known t v n k line → Counted v
 known_counted t v n k line a j inside = omega (arith, a.lie.below j inside, a.few)
@@ -308,12 +313,21 @@ text_found t v n k line a false e none =
     subst (λ (i : ℕ). Found v n f.first i) same (falling_found t v n k line a)
 text_found t v n k line a true e none = not_true (sym e)
 
+block_found : (v : Layout) (n k : ℕ) → (b : Bool) → b ≡ true → LineFound v n k
+    → Found v n (cell_of v.grid n).first ((if b then line_wanted v (cell_of v.grid n) else line_up_to v n (cell_of v.grid n) (line_wanted v (cell_of v.grid n))) + k)
+block_found v n k true e f = f
+block_found v n k false e f = not_true e
+
 line_found : (t v : Layout) (n k line : ℕ) → Known t v n k line → Found v n (cell_of v.grid n).first (line_of v n + k)
 line_found t v n k line a = choose (cell_of v.grid n).falls refl
   where
     choose : (b : Bool) → (cell_of v.grid n).falls ≡ b
         → Found v n (cell_of v.grid n).first ((if b then falling_line v n (cell_of v.grid n) else row_line v (cell_of v.grid n).top) + k)
-    choose true e = (let g = a.goes e in text_found t v n k line a (is_given (cell_of v.grid n).block) g.0 g.1)
+    choose true e =
+        elim (a.goes e) [
+          | inl g ↦ text_found t v n k line a (is_given (cell_of v.grid n).block) g.0 g.1
+          | inr g ↦ block_found v n k (is_given (cell_of v.grid n).block) g.0 g.1
+        ]
     choose false e = own_found t v n k line a k (a.stays e)
 
 -- only where fields begin is another then
@@ -335,10 +349,11 @@ known_once t v n k line a =
 -- ---- of a table whose fields are placed and whose rows have their heights
 
 -- a field of a row has so many lines, or as many as there are numbers
-pub record Fits (t : Layout) (n k : ℕ) : Type 0 where
+pub record Fits (t : Layout) (ends : Bool) (n k : ℕ) : Type 0 where
   pub stays : (cell_of t.grid n).falls ≡ false
       → (k < lines_of (tall t (cell_of t.grid n).top)) ⊎ (lines_of (tall t (cell_of t.grid n).top) ≡ 18446744073709551615)
-  pub goes : (cell_of t.grid n).falls ≡ true → (is_given (cell_of t.grid n).block ≡ false) × (k ≡ 0)
+  pub goes : (cell_of t.grid n).falls ≡ true
+      → ((is_given (cell_of t.grid n).block ≡ false) × (k ≡ 0)) ⊎ ((is_given (cell_of t.grid n).block ≡ true) × LineFound (steps_taken ends t) n k)
 
 pub placed_once : (t : Layout) (ends : Bool) (n k : ℕ) → IsPlaced t.grid → length t.grid.table.rows.items ≤ length t.talls.items
     → 4 * length t.grid.table.items.items + 4 ≤ t.steps.capacity
@@ -346,7 +361,7 @@ pub placed_once : (t : Layout) (ends : Bool) (n k : ℕ) → IsPlaced t.grid →
     → (walked ends t).walk.line < 18446744073709551615
     → length t.grid.cells.items ≤ t.begins.capacity
     → n < length t.grid.cells.items
-    → Fits t n k
+    → Fits t ends n k
     → StandsOnce (lines_settled (steps_taken ends t)) n k
 placed_once t ends n k p many room some few begins inside fits =
     let w : Walking = walked ends t in
@@ -382,6 +397,9 @@ placed_once t ends n k p many room some few begins inside fits =
             | inr full ↦ absurd (let no : ⊥ = omega (arith, under, tall_is, same, full, few) in no)
           ];
       goes = λ e.
-          let h = fits.goes (ap (λ (c : Cell). c.falls) (sym is) ∙ e) in
-          (ap (λ (c : Cell). is_given c.block) is ∙ h.0, h.1);
+          let block : is_given (cell_of v.grid n).block ≡ is_given (cell_of g n).block = ap (λ (c : Cell). is_given c.block) is in
+          elim (fits.goes (ap (λ (c : Cell). c.falls) (sym is) ∙ e)) [
+            | inl h ↦ inl (block ∙ h.0, h.1)
+            | inr h ↦ inr (block ∙ h.0, h.1)
+          ];
     })

@@ -49,7 +49,7 @@ within w k r c less inside =
 up_by : (w k d : ℕ) → k * w + w ≤ (k + 1 + d) * w
 up_by w k d = omega arith
 
-up_to : (w k n : ℕ) → k < n → k * w + w ≤ n * w
+pub up_to : (w k n : ℕ) → k < n → k * w + w ≤ n * w
 up_to w k n less =
     let e : k + 1 + (n - (k + 1)) ≡ n = omega (arith, less) in
     subst (λ (m : ℕ). k * w + w ≤ m * w) e (up_by w k (n - (k + 1)))
@@ -167,7 +167,7 @@ row_placed s n t room inside p =
     let starts : Starts t n = p.grid ∙ ap (λ (k : ℕ). n * k) (sym same) in
     let r : Row = row t.table n in
     let q : Placing = placing (columns t) n r t in
-    let filled : Partly t n (columns t) q.grid = row_filled t n r has in
+    let filled : Partly t n (columns t) q.grid = row_filled t n r has starts in
     let inner : columns q.grid ≡ columns t = ap (λ (xs : Items Column). length xs.items) filled.heads in
     let u : Grid = went_on n (length t.cells.items) q.grid in
     let j : Partly t n (columns t) u =
@@ -175,7 +175,7 @@ row_placed s n t room inside p =
     (judged t n (columns t) q.grid has starts (omega arith) filled) in
     row_closed s t u n (place_of n (length t.cells.items) q.given u) p j same refl refl refl
 
-rows_placed : (t : Grid) (k : ℕ) → AllRoom (forgotten_cells t) → k ≤ length t.table.rows.items
+pub rows_placed : (t : Grid) (k : ℕ) → AllRoom (forgotten_cells t) → k ≤ length t.table.rows.items
     → RowsPlaced (forgotten_cells t) k (in_turn k placed_row (forgotten_cells t))
 rows_placed t zero room h = record {
   heads = refl;

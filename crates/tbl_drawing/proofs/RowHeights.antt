@@ -79,6 +79,19 @@ talls_lines (suc k) l r =
     (λ e. append_has (λ (y : Tall). 1 ≤ lines_of y) xs.items x (tall_of 1) (some_line (own_height l.grid p) (highest_least (p.cells_end - p.cells) l.grid p.cells 1)) (talls_lines k l) r)
     (λ e. talls_lines k l r)
 
+talls_plain : (k : ℕ) (l : Layout) (r : ℕ) → (get_or (first_talls k l).items r (tall_of 1)).more ≡ 0
+talls_plain zero l r = refl
+talls_plain (suc k) l r =
+    let x : Tall = tall_of (own_height l.grid (placed l.grid k)) in
+    let xs : Items Tall = first_talls k l in
+    by_cases (λ (ts : List Tall). (get_or ts r (tall_of 1)).more ≡ 0) (nat_lt (length xs.items) xs.capacity) (xs.items ++ x ∷ []) xs.items
+    (λ e. append_has (λ (y : Tall). y.more ≡ 0) xs.items x (tall_of 1) refl (talls_plain k l) r)
+    (λ e. talls_plain k l r)
+
+-- no row has more lines than its fields
+pub heights_plain : (l : Layout) (r : ℕ) → (tall (heights_read l) r).more ≡ 0
+heights_plain l r = ap (λ (x : Layout). (tall x r).more) (heights_are l) ∙ talls_plain (length l.grid.placed.items) l r
+
 pub heights_lines : (l : Layout) → HasLines (heights_read l)
 heights_lines l r =
     let is : lines_of (tall (heights_read l) r) ≡ lines_of (get_or (first_talls (length l.grid.placed.items) l).items r (tall_of 1)) =

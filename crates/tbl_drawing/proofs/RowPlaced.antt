@@ -1,4 +1,5 @@
 -- A row is placed: each of its fields begins in the first of its columns, and what stands in the rows above stays.
+use Rattle.std.specs.Prelude.{◌⊎◌}
 use Rattle.std.proofs.Common.{◌≡◌, ◌≢◌, ℕ, zero, suc, ◌+◌, ◌-◌, ◌*◌, ◌<◌, ◌≤◌, min, Bool, true, false, ◌&&◌, nat_lt, List, [], ◌∷◌, ◌++◌, length, get_or, refl, sym, ap, subst, arith, ◌∙◌, length-append, length-set, inl, inr, if◌then◌else◌}
 use Rattle.std.proofs.Math.ListN.{get_or-append}
 use Rattle.std.proofs.Math.Seq.{get_or-append_seam}
@@ -17,8 +18,8 @@ use Rattle.tbl_table.specs.declared.table.Row.{Row}
 use Rattle.tbl_table.specs.Held.{key, line, no_field, row}
 use Rattle.tbl_table.specs.Lists.{added, added_each, in_turn, put}
 use Rattle.tbl_table.specs.Sums.{sum}
-use Rattle.tbl_columns.proofs.Turns.{set_same}
-use Rattle.tbl_drawing.proofs.Below.{below_by, by_cases, not_below_by, two}
+use Rattle.tbl_columns.proofs.Turns.{set_has, set_same}
+use Rattle.tbl_drawing.proofs.Below.{below_by, below_or, by_cases, equal_or, not_below_by, two}
 
 abbrev pub most : ℕ
 most = 18446744073709551615
@@ -81,6 +82,19 @@ abbrev pub Mine : Grid → ℕ → ℕ → Grid → ℕ → Type 0
 Mine b n next t f =
     ((cell_of t f).top ≡ n) × ((cell_of t f).first < next) × (entry t.numbers (length b.numbers.items + (cell_of t f).first) ≡ f)
 
+-- a column has a number of the row's own, or that of the row above
+abbrev pub Copied : Grid → ℕ → Grid → ℕ → Type 0
+Copied b n t c =
+    (length b.cells.items ≤ entry t.numbers (length b.numbers.items + c))
+    ⊎ ((0 < n) × (entry t.numbers (length b.numbers.items + c) ≡ entry b.numbers (length b.numbers.items + c - columns b)))
+
+-- a field of the row alone
+abbrev pub Narrow : Grid → Cell → Type 0
+Narrow b x = (x.first ≤ x.last) × (x.last < columns b)
+
+abbrev pub Alone : Grid → ℕ → Grid → ℕ → Type 0
+Alone b n t f = ((cell_of t f).bottom ≡ n) × Narrow b (cell_of t f)
+
 pub record Partly (b : Grid) (n next : ℕ) (t : Grid) : Type 0 where
   pub heads : t.columns ≡ b.columns
   pub table : t.table ≡ b.table
@@ -89,7 +103,10 @@ pub record Partly (b : Grid) (n next : ℕ) (t : Grid) : Type 0 where
   pub more : length b.cells.items ≤ length t.cells.items
   pub tops : (f : ℕ) → f < length b.cells.items → (cell_of t f).top ≡ (cell_of b f).top
   pub firsts : (f : ℕ) → f < length b.cells.items → (cell_of t f).first ≡ (cell_of b f).first
+  pub lasts : (f : ℕ) → f < length b.cells.items → (cell_of t f).last ≡ (cell_of b f).last
   pub mine : (f : ℕ) → length b.cells.items ≤ f → f < length t.cells.items → Mine b n next t f
+  pub alone : (f : ℕ) → length b.cells.items ≤ f → f < length t.cells.items → Alone b n t f
+  pub copied : (c : ℕ) → c < next → Copied b n t c
 
 -- only the grid is another
 record Went (t u : Grid) (m : ℕ) : Type 0 where
@@ -117,8 +134,28 @@ went_down n first (suc m) t h =
           (grows_one x u.numbers (omega (arith, h, w.grid.count, w.grid.room)));
     }
 
-partly_went : (b : Grid) (n next m : ℕ) (t u : Grid) → Partly b n next t → Went t u m → Partly b n (next + m) u
-partly_went b n next m t u p w =
+kept_copied : (b : Grid) (n c : ℕ) (t u : Grid) → entry u.numbers (length b.numbers.items + c) ≡ entry t.numbers (length b.numbers.items + c)
+    → Copied b n t c → Copied b n u c
+kept_copied b n c t u e h =
+    elim h [
+      | inl own ↦ inl (let same : entry u.numbers (length b.numbers.items + c) ≡ entry t.numbers (length b.numbers.items + c) = e in omega (arith, own, same))
+      | inr down ↦ inr (down.0, e ∙ down.1)
+    ]
+
+-- more columns are covered
+more_copied : (b : Grid) (n next m : ℕ) (t u : Grid) → length t.numbers.items ≡ length b.numbers.items + next → Grows t.numbers u.numbers m
+    → ((c : ℕ) → c < next → Copied b n t c) → ((i : ℕ) → i < m → Copied b n u (next + i)) → (c : ℕ) → c < next + m → Copied b n u c
+more_copied b n next m t u count g before now c less =
+    elim (below_or c next) [
+      | inl low ↦ kept_copied b n c t u (g.kept (length b.numbers.items + c) (omega (arith, low, count))) (before c low)
+      | inr high ↦
+          (let e : next + (c - next) ≡ c = omega (arith, high) in
+          subst (λ (i : ℕ). Copied b n u i) e (now (c - next) (omega (arith, less, high))))
+    ]
+
+partly_went : (b : Grid) (n next m : ℕ) (t u : Grid) → Partly b n next t → Went t u m → ((i : ℕ) → i < m → Copied b n u (next + i))
+    → Partly b n (next + m) u
+partly_went b n next m t u p w copied =
     let same : (f : ℕ) → cell_of u f ≡ cell_of t f = λ f. ap (λ (cs : Items Cell). get_or cs.items f no_cell) w.cells in
     record {
       heads = w.heads ∙ p.heads;
@@ -137,13 +174,44 @@ partly_went b n next m t u p w =
                 ∙ w.grid.kept (length b.numbers.items + (cell_of t f).first) (omega (arith, my.1, p.grid.count))
                 ∙ my.2,
           );
+      lasts = λ f less. ap (λ (c : Cell). c.last) (same f) ∙ p.lasts f less;
+      alone = λ f low less.
+          let a : Alone b n t f = p.alone f low (omega (arith, less, ap (λ (cs : Items Cell). length cs.items) w.cells)) in
+          subst (λ (c : Cell). (c.bottom ≡ n) × Narrow b c) (sym (same f)) a;
+      copied = more_copied b n next m t u p.grid.count w.grid p.copied copied;
     }
 
 -- a field is placed in the next columns, if there is room for it
-one_placed : (b : Grid) (n c m : ℕ) (x : Cell) (t : Grid) → Partly b n c t → x.top ≡ n → x.first ≡ c
+each_is : (m x : ℕ) (xs : Items ℕ) → length xs.items + m ≤ xs.capacity → (i : ℕ) → i < m → entry (added_each m x xs) (length xs.items + i) ≡ x
+each_is zero x xs h i less = absurd (none i less)
+  where
+    none : (i : ℕ) → i < 0 → ⊥
+    none i less = omega (arith, less)
+each_is (suc m) x xs h i less =
+    let ys : Items ℕ = added_each m x xs in
+    let before : Grows xs ys m = grows_each m x xs (omega (arith, h)) in
+    let room : length ys.items < ys.capacity = omega (arith, h, before.count, before.room) in
+    let now : Grows ys (added x ys) 1 = grows_one x ys room in
+    elim (two i m (omega (arith, less))) [
+      | inl low ↦ now.kept (length xs.items + i) (omega (arith, low, before.count)) ∙ each_is m x xs (omega (arith, h)) i low
+      | inr last ↦
+          (let at : length xs.items + i ≡ length ys.items = omega (arith, last, before.count) in
+          ap (entry (added x ys)) at ∙ ap (λ (l : List ℕ). get_or l (length ys.items) 0) (added_entry x ys room) ∙ get_or-append_seam ys.items x [] 0)
+    ]
+
+-- a row's own number stands in columns
+own_copied : (b : Grid) (n next m x : ℕ) (t u : Grid) → length t.numbers.items ≡ length b.numbers.items + next → length b.cells.items ≤ x
+    → length t.numbers.items + m ≤ t.numbers.capacity → u.numbers ≡ added_each m x t.numbers → (i : ℕ) → i < m → Copied b n u (next + i)
+own_copied b n next m x t u count own room is i less =
+    let at : length b.numbers.items + (next + i) ≡ length t.numbers.items + i = omega (arith, count) in
+    let e : entry u.numbers (length b.numbers.items + (next + i)) ≡ x =
+    ap (λ (xs : Items ℕ). entry xs (length b.numbers.items + (next + i))) is ∙ ap (entry (added_each m x t.numbers)) at ∙ each_is m x t.numbers room i less in
+    inl (omega (arith, e, own))
+
+one_placed : (b : Grid) (n c m : ℕ) (x : Cell) (t : Grid) → Partly b n c t → x.top ≡ n → x.first ≡ c → x.bottom ≡ n → Narrow b x
     → length t.numbers.items + suc m ≤ t.numbers.capacity
     → Partly b n (c + suc m) (record t { cells = record t.cells { items = t.cells.items ++ x ∷ [] }; numbers = added_each (suc m) (length t.cells.items) t.numbers })
-one_placed b n c m x t p top first h =
+one_placed b n c m x t p top first bottom wide h =
     let number : ℕ = length t.cells.items in
     let w : Grid = record t { cells = record t.cells { items = t.cells.items ++ x ∷ [] }; numbers = added_each (suc m) number t.numbers } in
     let grown : Grows t.numbers w.numbers (suc m) = grows_each (suc m) number t.numbers h in
@@ -178,22 +246,34 @@ one_placed b n c m x t p top first h =
                   ap (entry w.numbers) at ∙ each_first m number t.numbers h ∙ sym same,
                 ))
           ];
+      lasts = λ f less. ap (λ (d : Cell). d.last) (old f (omega (arith, less, p.more))) ∙ p.lasts f less;
+      alone = λ f low less.
+          elim (two f number (omega (arith, less, longer))) [
+            | inl before ↦ subst (λ (d : Cell). (d.bottom ≡ n) × Narrow b d) (sym (old f before)) (p.alone f low before)
+            | inr same ↦
+                (let it : cell_of w f ≡ x = ap (cell_of w) same ∙ last in
+                subst (λ (d : Cell). (d.bottom ≡ n) × Narrow b d) (sym it) (bottom, wide))
+          ];
+      copied =
+          more_copied b n c (suc m) t w p.grid.count grown p.copied
+          (own_copied b n c (suc m) number t w p.grid.count p.more h refl);
     }
 
-grid_placed : (b : Grid) (n c m x : ℕ) (t : Grid) → Partly b n c t → length t.numbers.items + suc m ≤ t.numbers.capacity
+grid_placed : (b : Grid) (n c m x : ℕ) (t : Grid) → Partly b n c t → length b.cells.items ≤ x → length t.numbers.items + suc m ≤ t.numbers.capacity
     → Partly b n (c + suc m) (record t { numbers = added_each (suc m) x t.numbers })
-grid_placed b n c m x t p h =
+grid_placed b n c m x t p own h =
     partly_went b n c (suc m) t (record t { numbers = added_each (suc m) x t.numbers }) p
     (record { heads = refl; table = refl; rows = refl; cells = refl; grid = grows_each (suc m) x t.numbers h })
+    (own_copied b n c (suc m) x t (record t { numbers = added_each (suc m) x t.numbers }) p.grid.count own h refl)
 
-cell_placed : (b : Grid) (n c m : ℕ) (x : Cell) (t : Grid) → Partly b n c t → x.top ≡ n → x.first ≡ c
+cell_placed : (b : Grid) (n c m : ℕ) (x : Cell) (t : Grid) → Partly b n c t → x.top ≡ n → x.first ≡ c → x.bottom ≡ n → Narrow b x
     → length t.numbers.items + suc m ≤ t.numbers.capacity
     → Partly b n (c + suc m) (record t { cells = added x t.cells; numbers = added_each (suc m) (length t.cells.items) t.numbers })
-cell_placed b n c m x t p top first h =
+cell_placed b n c m x t p top first bottom wide h =
     by_cases
     (λ (cs : List Cell). Partly b n (c + suc m) (record t { cells = record t.cells { items = cs }; numbers = added_each (suc m) (length t.cells.items) t.numbers }))
     (nat_lt (length t.cells.items) t.cells.capacity) (t.cells.items ++ x ∷ []) t.cells.items
-    (λ e. one_placed b n c m x t p top first h) (λ e. grid_placed b n c m (length t.cells.items) t p h)
+    (λ e. one_placed b n c m x t p top first bottom wide h) (λ e. grid_placed b n c m (length t.cells.items) t p p.more h)
 
 -- the last column of a field is none before its first, and none beyond those of the table
 over_least : (n : ℕ) (t : Grid) (l : Line) (c : ℕ) → c ≤ goes_over n t l c
@@ -208,9 +288,14 @@ over_most (suc n) t l c =
     by_cases (λ (k : ℕ). k ≤ c + suc n) (is_across (key t.table l (c + 1)).kind) (goes_over n t l (c + 1)) c
     (λ e. let h : goes_over n t l (c + 1) ≤ c + 1 + n = over_most n t l (c + 1) in omega (arith, h)) (λ e. omega arith)
 
+-- fields from above are as they were
+abbrev pub Olds : Grid → Grid → Type 0
+Olds b t = (f : ℕ) → f < length b.cells.items → cell_of t f ≡ cell_of b f
+
 -- all columns before this one are covered
 record Filling (b : Grid) (n c : ℕ) (p : Placing) : Type 0 where
   partly : Partly b n p.next p.grid
+  olds : Olds b p.grid
   covers : c ≤ p.next
   within : p.next ≤ columns b
 
@@ -219,22 +304,81 @@ abbrev pub HasRoom : Grid → Type 0
 HasRoom b = (length b.numbers.items + columns b ≤ b.numbers.capacity) × (b.numbers.capacity ≤ most)
 
 -- the next columns are covered by the field above, or by one of the row
-next_down : (b : Grid) (n c m : ℕ) (t : Grid) → Partly b n c t → length t.numbers.items + suc m ≤ t.numbers.capacity → (wide : ℕ) → wide ≡ suc m
-    → Partly b n (c + suc m) (in_turn wide (λ i. gone_on_at n (c + i)) t)
-next_down b n c m t p h wide e =
-    subst (λ (k : ℕ). Partly b n (c + suc m) (in_turn k (λ i. gone_on_at n (c + i)) t)) (sym e)
-    (partly_went b n c (suc m) t (in_turn (suc m) (λ i. gone_on_at n (c + i)) t) p (went_down n c (suc m) t h))
+pub one_less : (n w : ℕ) → 0 < n → n * w ≡ (n - 1) * w + w
+one_less zero w h = absurd (let no : ⊥ = omega (arith, h) in no)
+one_less (suc n) w h =
+    let e : n ≡ suc n - 1 = omega arith in
+    subst (λ (k : ℕ). suc n * w ≡ k * w + w) e (let is : suc n * w ≡ n * w + w = omega arith in is)
 
-next_own : (b : Grid) (n c m : ℕ) (x : Cell) (t : Grid) → Partly b n c t → x.top ≡ n → x.first ≡ c
+-- what stands above
+went_entries : (n first m : ℕ) (t : Grid) → length t.numbers.items + m ≤ t.numbers.capacity
+    → ((i : ℕ) → i < m → number_place t (n - 1) (first + i) < length t.numbers.items)
+    → (i : ℕ) → i < m → entry (in_turn m (λ k. gone_on_at n (first + k)) t).numbers (length t.numbers.items + i) ≡ cell_number t (n - 1) (first + i)
+went_entries n first zero t h above i less = absurd (let no : ⊥ = omega (arith, less) in no)
+went_entries n first (suc m) t h above i less =
+    let u : Grid = in_turn m (λ k. gone_on_at n (first + k)) t in
+    let w : Went t u m = went_down n first m t (omega (arith, h)) in
+    let x : ℕ = cell_number u (n - 1) (first + m) in
+    let room : length u.numbers.items < u.numbers.capacity = omega (arith, h, w.grid.count, w.grid.room) in
+    let now : Grows u.numbers (added x u.numbers) 1 = grows_one x u.numbers room in
+    elim (two i m (omega (arith, less))) [
+      | inl low ↦ now.kept (length t.numbers.items + i) (omega (arith, low, w.grid.count))
+          ∙ went_entries n first m t (omega (arith, h)) (λ j under. above j (omega (arith, under))) i low
+      | inr last ↦
+          (let at : length t.numbers.items + i ≡ length u.numbers.items = omega (arith, last, w.grid.count) in
+          let same : number_place u (n - 1) (first + m) ≡ number_place t (n - 1) (first + m) =
+          ap (λ (xs : Items Column). sum (min ((n - 1) * length xs.items) most) (first + m)) w.heads in
+          ap (entry (added x u.numbers)) at ∙ ap (λ (l : List ℕ). get_or l (length u.numbers.items) 0) (added_entry x u.numbers room)
+          ∙ get_or-append_seam u.numbers.items x [] 0
+          ∙ ap (entry u.numbers) same ∙ w.grid.kept (number_place t (n - 1) (first + m)) (above m (omega arith))
+          ∙ ap (λ (k : ℕ). cell_number t (n - 1) (first + k)) (sym last))
+    ]
+
+-- where the row begins in the grid
+abbrev pub Starts : Grid → ℕ → Type 0
+Starts b n = length b.numbers.items ≡ n * columns b
+
+down_copied : (b : Grid) (n c m : ℕ) (t : Grid) → HasRoom b → Starts b n → 0 < n → Partly b n c t → length t.numbers.items + m ≤ t.numbers.capacity
+    → c + m ≤ columns b → (i : ℕ) → i < m → Copied b n (in_turn m (λ k. gone_on_at n (c + k)) t) (c + i)
+down_copied b n c m t room starts some p h inside i less =
+    let w : ℕ = columns b in
+    let same : columns t ≡ w = ap (λ (xs : Items Column). length xs.items) p.heads in
+    let up : n * w ≡ (n - 1) * w + w = one_less n w some in
+    let place : (k : ℕ) → k < m → number_place t (n - 1) (c + k) ≡ length b.numbers.items + (c + k) - w = λ k under.
+    ap (λ (v : ℕ). sum (min ((n - 1) * v) most) (c + k)) same
+    ∙ (let is : sum (min ((n - 1) * w) most) (c + k) ≡ length b.numbers.items + (c + k) - w = omega (arith, up, starts, room.0, room.1, under, inside) in is) in
+    let before : (k : ℕ) → k < m → length b.numbers.items + (c + k) - w < length b.numbers.items = λ k under. omega (arith, up, starts, under, inside) in
+    let at : length t.numbers.items + i ≡ length b.numbers.items + (c + i) = omega (arith, p.grid.count) in
+    inr (
+      some,
+      ap (entry (in_turn m (λ k. gone_on_at n (c + k)) t).numbers) (sym at)
+          ∙ went_entries n c m t h (λ k under. omega (arith, place k under, before k under, p.grid.count)) i less
+          ∙ ap (entry t.numbers) (place i less)
+          ∙ p.grid.kept (length b.numbers.items + (c + i) - w) (before i less),
+    )
+
+next_down : (b : Grid) (n c m : ℕ) (t : Grid) → HasRoom b → Starts b n → 0 < n → c + suc m ≤ columns b → Partly b n c t
+    → length t.numbers.items + suc m ≤ t.numbers.capacity → (wide : ℕ) → wide ≡ suc m
+    → Partly b n (c + suc m) (in_turn wide (λ i. gone_on_at n (c + i)) t)
+next_down b n c m t room starts some inside p h wide e =
+    subst (λ (k : ℕ). Partly b n (c + suc m) (in_turn k (λ i. gone_on_at n (c + i)) t)) (sym e)
+    (partly_went b n c (suc m) t (in_turn (suc m) (λ i. gone_on_at n (c + i)) t) p (went_down n c (suc m) t h)
+    (down_copied b n c (suc m) t room starts some p h inside))
+
+next_own : (b : Grid) (n c m : ℕ) (x : Cell) (t : Grid) → Partly b n c t → x.top ≡ n → x.first ≡ c → x.bottom ≡ n → Narrow b x
     → length t.numbers.items + suc m ≤ t.numbers.capacity → (wide : ℕ) → wide ≡ suc m
     → Partly b n (c + suc m) (record t { cells = added x t.cells; numbers = added_each wide (length t.cells.items) t.numbers })
-next_own b n c m x t p top first h wide e =
+next_own b n c m x t p top first bottom broad h wide e =
     subst (λ (k : ℕ). Partly b n (c + suc m) (record t { cells = added x t.cells; numbers = added_each k (length t.cells.items) t.numbers })) (sym e)
-    (cell_placed b n c m x t p top first h)
+    (cell_placed b n c m x t p top first bottom broad h)
 
-next_placed : (b : Grid) (n : ℕ) (r : Row) (given c last : ℕ) (t : Grid) → HasRoom b → Partly b n c t → c ≤ last → last < columns b
+left_true : (a b : Bool) → (a && b) ≡ true → a ≡ true
+left_true true b h = refl
+left_true false b h = h
+
+next_placed : (b : Grid) (n : ℕ) (r : Row) (given c last : ℕ) (t : Grid) → HasRoom b → Starts b n → Partly b n c t → c ≤ last → last < columns b
     → Partly b n (sum last 1) (placed_next n r given c last t)
-next_placed b n r given c last t room p least inside =
+next_placed b n r given c last t room starts p least inside =
     let k : Key = key t.table (line t.table r.line) c in
     let f : Field = field_given t r given in
     let wide : columns_over c last ≡ suc (last - c) = omega (arith, least, inside, room.0, room.1) in
@@ -244,12 +388,31 @@ next_placed b n r given c last t room p least inside =
     subst (λ (w : ℕ). Partly b n w (placed_next n r given c last t)) upto
     (by_cases (Partly b n (c + suc (last - c))) (nat_lt 0 n && goes_on k f)
     (in_turn (columns_over c last) (λ i. gone_on_at n (c + i)) t) (placed_field n k f c last t)
-    (λ e. next_down b n c (last - c) t p fits (columns_over c last) wide)
-    (λ e. next_own b n c (last - c) (new_cell t n k f c last) t p refl refl fits (columns_over c last) wide))
+    (λ e. next_down b n c (last - c) t room starts (below_by 0 n (left_true (nat_lt 0 n) (goes_on k f) e)) (omega (arith, least, inside)) p fits (columns_over c last) wide)
+    (λ e. next_own b n c (last - c) (new_cell t n k f c last) t p refl refl refl (least, inside) fits (columns_over c last) wide))
 
-column_placed : (b : Grid) (n : ℕ) (r : Row) (c : ℕ) (p : Placing) → HasRoom b → c < columns b → Filling b n c p
+gone_same : (n first m : ℕ) (t : Grid) → (in_turn m (λ i. gone_on_at n (first + i)) t).cells ≡ t.cells
+gone_same n first zero t = refl
+gone_same n first (suc m) t = gone_same n first m t
+
+pub added_old : (x : Cell) (xs : Items Cell) (f : ℕ) → f < length xs.items → get_or (added x xs).items f no_cell ≡ get_or xs.items f no_cell
+added_old x xs f less =
+    by_cases (λ (cs : List Cell). get_or cs f no_cell ≡ get_or xs.items f no_cell) (nat_lt (length xs.items) xs.capacity) (xs.items ++ x ∷ []) xs.items
+    (λ e. get_or-append xs.items (x ∷ []) no_cell f less) (λ e. refl)
+
+next_olds : (b : Grid) (n : ℕ) (r : Row) (given c last : ℕ) (t : Grid) → length b.cells.items ≤ length t.cells.items → Olds b t
+    → Olds b (placed_next n r given c last t)
+next_olds b n r given c last t more o =
+    let k : Key = key t.table (line t.table r.line) c in
+    let f : Field = field_given t r given in
+    by_cases (Olds b) (nat_lt 0 n && goes_on k f)
+    (in_turn (columns_over c last) (λ i. gone_on_at n (c + i)) t) (placed_field n k f c last t)
+    (λ e. λ i less. ap (λ (cs : Items Cell). get_or cs.items i no_cell) (gone_same n c (columns_over c last) t) ∙ o i less)
+    (λ e. λ i less. added_old (new_cell t n k f c last) t.cells i (omega (arith, less, more)) ∙ o i less)
+
+column_placed : (b : Grid) (n : ℕ) (r : Row) (c : ℕ) (p : Placing) → HasRoom b → Starts b n → c < columns b → Filling b n c p
     → Filling b n (suc c) (placed_at n r c p)
-column_placed b n r c p room inside f =
+column_placed b n r c p room starts inside f =
     let last : ℕ = last_of p.grid r c in
     let same : columns p.grid ≡ columns b = ap (λ (xs : Items Column). length xs.items) f.partly.heads in
     let least : c ≤ last = over_least (columns p.grid - (c + 1)) p.grid (line p.grid.table r.line) c in
@@ -260,12 +423,13 @@ column_placed b n r c p room inside f =
       given = min (sum p.given 1) r.«end»;
       next = sum last 1;
     })
-    (λ e. let h : c < p.next = below_by c p.next e in record { partly = f.partly; covers = omega (arith, h); within = f.within })
+    (λ e. let h : c < p.next = below_by c p.next e in record { partly = f.partly; olds = f.olds; covers = omega (arith, h); within = f.within })
     (λ e.
     let h : p.next ≤ c = not_below_by c p.next e in
     let here : p.next ≡ c = omega (arith, h, f.covers) in
     record {
-      partly = next_placed b n r p.given c last p.grid room (subst (λ (m : ℕ). Partly b n m p.grid) here f.partly) least there;
+      partly = next_placed b n r p.given c last p.grid room starts (subst (λ (m : ℕ). Partly b n m p.grid) here f.partly) least there;
+      olds = next_olds b n r p.given c last p.grid f.partly.more f.olds;
       covers = omega (arith, least, there, room.0, room.1);
       within = omega (arith, there);
     })
@@ -279,22 +443,28 @@ partly_none b n = record {
   more = omega arith;
   tops = λ f less. refl;
   firsts = λ f less. refl;
+  lasts = λ f less. refl;
   mine = λ f low less. absurd (none (length b.cells.items) f low less);
+  alone = λ f low less. absurd (none (length b.cells.items) f low less);
+  copied = λ c less. absurd (let no : ⊥ = omega (arith, less) in no);
 }
   where
     none : (m f : ℕ) → m ≤ f → f < m → ⊥
     none m f low less = omega (arith, low, less)
 
-columns_placed : (b : Grid) (n : ℕ) (r : Row) (c : ℕ) → HasRoom b → c ≤ columns b → Filling b n c (placing c n r b)
-columns_placed b n r zero room h = record { partly = partly_none b n; covers = omega arith; within = omega arith }
-columns_placed b n r (suc c) room h =
-    column_placed b n r c (placing c n r b) room (omega (arith, h)) (columns_placed b n r c room (omega (arith, h)))
+columns_placed : (b : Grid) (n : ℕ) (r : Row) (c : ℕ) → HasRoom b → Starts b n → c ≤ columns b → Filling b n c (placing c n r b)
+columns_placed b n r zero room starts h = record { partly = partly_none b n; olds = λ f less. refl; covers = omega arith; within = omega arith }
+columns_placed b n r (suc c) room starts h =
+    column_placed b n r c (placing c n r b) room starts (omega (arith, h)) (columns_placed b n r c room starts (omega (arith, h)))
 
-pub row_filled : (b : Grid) (n : ℕ) (r : Row) → HasRoom b → Partly b n (columns b) (placing (columns b) n r b).grid
-row_filled b n r room =
-    let f : Filling b n (columns b) (placing (columns b) n r b) = columns_placed b n r (columns b) room (omega arith) in
+pub row_filled : (b : Grid) (n : ℕ) (r : Row) → HasRoom b → Starts b n → Partly b n (columns b) (placing (columns b) n r b).grid
+row_filled b n r room starts =
+    let f : Filling b n (columns b) (placing (columns b) n r b) = columns_placed b n r (columns b) room starts (omega arith) in
     let all : (placing (columns b) n r b).next ≡ columns b = omega (arith, f.covers, f.within) in
     subst (λ (k : ℕ). Partly b n k (placing (columns b) n r b).grid) all f.partly
+
+pub row_olds : (b : Grid) (n : ℕ) (r : Row) → HasRoom b → Starts b n → Olds b (placing (columns b) n r b).grid
+row_olds b n r room starts = (columns_placed b n r (columns b) room starts (omega arith)).olds
 
 -- ---- a field from above goes on over the row, or ends above
 
@@ -305,6 +475,7 @@ partly_gone b n w f t p =
     let count : length u.cells.items ≡ length t.cells.items = length-set t.cells.items f x in
     let tops : (i : ℕ) → (cell_of u i).top ≡ (cell_of t i).top = set_same (λ (c : Cell). c.top) t.cells.items f x no_cell refl in
     let firsts : (i : ℕ) → (cell_of u i).first ≡ (cell_of t i).first = set_same (λ (c : Cell). c.first) t.cells.items f x no_cell refl in
+    let lasts : (i : ℕ) → (cell_of u i).last ≡ (cell_of t i).last = set_same (λ (c : Cell). c.last) t.cells.items f x no_cell refl in
     record {
       heads = p.heads;
       table = p.table;
@@ -319,12 +490,18 @@ partly_gone b n w f t p =
             omega (arith, firsts i, my.1),
             ap (λ (k : ℕ). entry t.numbers (length b.numbers.items + k)) (firsts i) ∙ my.2,
           );
+      lasts = λ i less. lasts i ∙ p.lasts i less;
+      alone = λ i low less.
+          let a : Alone b n t i = p.alone i low (omega (arith, less, count)) in
+          set_has (λ (c : Cell). (c.bottom ≡ n) × Narrow b c) t.cells.items f x no_cell i a
+          (λ e. (refl, subst (λ (k : ℕ). Narrow b (cell_of t k)) e a.1));
+      copied = p.copied;
     }
 
 -- an entry of the row is another
-grid_put : (b : Grid) (n w c x : ℕ) (t : Grid) → Partly b n w t → c < w → entry t.numbers (length b.numbers.items + c) < length b.cells.items
+grid_put : (b : Grid) (n w c x : ℕ) (t : Grid) → Partly b n w t → length b.cells.items ≤ x → c < w → entry t.numbers (length b.numbers.items + c) < length b.cells.items
     → Partly b n w (record t { numbers = put (length b.numbers.items + c) x t.numbers })
-grid_put b n w c x t p inside above =
+grid_put b n w c x t p own inside above =
     let place : ℕ = length b.numbers.items + c in
     let u : Grid = record t { numbers = put place x t.numbers } in
     let count : length u.numbers.items ≡ length t.numbers.items = length-set t.numbers.items place x in
@@ -346,6 +523,18 @@ grid_put b n w c x t p inside above =
             my.1,
             get_or-set_other t.numbers.items place (length b.numbers.items + (cell_of t f).first) x 0 (apart f low my.2) ∙ my.2,
           );
+      lasts = p.lasts;
+      alone = p.alone;
+      copied = λ d less.
+          elim (equal_or d c) [
+            | inl same ↦
+                (let here : entry u.numbers (length b.numbers.items + d) ≡ x =
+                ap (λ (k : ℕ). entry u.numbers (length b.numbers.items + k)) same
+                ∙ get_or-set_same t.numbers.items place x 0 (omega (arith, inside, p.grid.count)) in
+                inl (omega (arith, here, own)))
+            | inr differ ↦ kept_copied b n d t u
+                (get_or-set_other t.numbers.items place (length b.numbers.items + d) x 0 (λ e. differ (omega (arith, e)))) (p.copied d less)
+          ];
     }
   where
     other : (i : ℕ) → i < length b.numbers.items → i ≢ length b.numbers.items + c
@@ -356,13 +545,13 @@ grid_put b n w c x t p inside above =
     apart f low is same = omega (arith, low, is, above, ap (entry t.numbers) same)
 
 one_ended : (b : Grid) (n w c : ℕ) (x : Cell) (t : Grid) → Partly b n w t → c < w → entry t.numbers (length b.numbers.items + c) < length b.cells.items
-    → x.top ≡ n → x.first ≡ c
+    → x.top ≡ n → x.first ≡ c → x.bottom ≡ n → Narrow b x
     → Partly b n w (record t { cells = record t.cells { items = t.cells.items ++ x ∷ [] }; numbers = put (length b.numbers.items + c) (length t.cells.items) t.numbers })
-one_ended b n w c x t p inside above top first =
+one_ended b n w c x t p inside above top first bottom wide =
     let number : ℕ = length t.cells.items in
     let place : ℕ = length b.numbers.items + c in
     let v : Grid = record t { numbers = put place number t.numbers } in
-    let q : Partly b n w v = grid_put b n w c number t p inside above in
+    let q : Partly b n w v = grid_put b n w c number t p p.more inside above in
     let u : Grid = record v { cells = record t.cells { items = t.cells.items ++ x ∷ [] } } in
     let longer : length u.cells.items ≡ number + 1 = length-append t.cells.items (x ∷ []) in
     let old : (f : ℕ) → f < number → cell_of u f ≡ cell_of t f = λ f less. get_or-append t.cells.items (x ∷ []) no_cell f less in
@@ -393,22 +582,27 @@ one_ended b n w c x t p inside above top first =
                   ap (λ (i : ℕ). entry u.numbers (length b.numbers.items + i)) here ∙ there ∙ sym same,
                 ))
           ];
+      lasts = λ f less. ap (λ (d : Cell). d.last) (old f (omega (arith, less, p.more))) ∙ p.lasts f less;
+      alone = λ f low less.
+          elim (two f number (omega (arith, less, longer))) [
+            | inl before ↦ subst (λ (d : Cell). (d.bottom ≡ n) × Narrow b d) (sym (old f before)) (p.alone f low before)
+            | inr same ↦
+                (let it : cell_of u f ≡ x = ap (cell_of u) same ∙ last in
+                subst (λ (d : Cell). (d.bottom ≡ n) × Narrow b d) (sym it) (bottom, wide))
+          ];
+      copied = q.copied;
     }
 
 cell_ended : (b : Grid) (n w c : ℕ) (x : Cell) (t : Grid) → Partly b n w t → c < w → entry t.numbers (length b.numbers.items + c) < length b.cells.items
-    → x.top ≡ n → x.first ≡ c
+    → x.top ≡ n → x.first ≡ c → x.bottom ≡ n → Narrow b x
     → Partly b n w (record t { cells = added x t.cells; numbers = put (length b.numbers.items + c) (length t.cells.items) t.numbers })
-cell_ended b n w c x t p inside above top first =
+cell_ended b n w c x t p inside above top first bottom wide =
     by_cases
     (λ (cs : List Cell). Partly b n w (record t { cells = record t.cells { items = cs }; numbers = put (length b.numbers.items + c) (length t.cells.items) t.numbers }))
     (nat_lt (length t.cells.items) t.cells.capacity) (t.cells.items ++ x ∷ []) t.cells.items
-    (λ e. one_ended b n w c x t p inside above top first) (λ e. grid_put b n w c (length t.cells.items) t p inside above)
+    (λ e. one_ended b n w c x t p inside above top first bottom wide) (λ e. grid_put b n w c (length t.cells.items) t p p.more inside above)
 
--- where the row begins in the grid
-abbrev pub Starts : Grid → ℕ → Type 0
-Starts b n = length b.numbers.items ≡ n * columns b
-
-place_is : (b t : Grid) (n c : ℕ) → HasRoom b → Starts b n → t.columns ≡ b.columns → c < columns b → number_place t n c ≡ length b.numbers.items + c
+pub place_is : (b t : Grid) (n c : ℕ) → HasRoom b → Starts b n → t.columns ≡ b.columns → c < columns b → number_place t n c ≡ length b.numbers.items + c
 place_is b t n c room starts heads inside =
     let same : columns t ≡ columns b = ap (λ (xs : Items Column). length xs.items) heads in
     let fits : sum (min (length b.numbers.items) most) c ≡ length b.numbers.items + c = omega (arith, room.0, room.1, inside) in
@@ -429,7 +623,7 @@ judged_at b n c t room starts inside p =
     (cell_ended b n (columns b) c x t p inside
     (let here : entry t.numbers (length b.numbers.items + c) ≡ f = ap (entry t.numbers) (sym at) in
     let less : f < length b.cells.items = below_by f (length b.cells.items) e in omega (arith, here, less))
-    refl refl)))
+    refl refl refl (omega arith, inside))))
     (λ e. p)
 
 pub judged : (b : Grid) (n c : ℕ) (t : Grid) → HasRoom b → Starts b n → c ≤ columns b → Partly b n (columns b) t

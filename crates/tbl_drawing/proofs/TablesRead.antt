@@ -96,8 +96,8 @@ room_is_enough most row l ends small (signs, room, made) held few =
     }
 
 pub fields_read_stand_once : FieldsReadStandOnce
-fields_read_stand_once most row l ends n k small made held few inside less alone =
-    fields_stand_once l ends n k held.read (room_is_enough most row l ends small made held few) inside less alone
+fields_read_stand_once most row l ends n k small made held few inside less =
+    fields_stand_once l ends n k held.read (room_is_enough most row l ends small made held few) inside less
 
 -- ---- rows that go out
 

@@ -1,6 +1,5 @@
 -- What may be expected of the lines of any table.
 use Rattle.std.specs.Prelude.{◌≡◌, ℕ, ◌+◌, ◌*◌, ◌<◌, ◌≤◌, Bool, true, false, ◌&&◌, List, [], ◌∷◌, ◌++◌, length, Option, Some, if◌then◌else◌}
-use Rattle.tbl_columns.specs.Columns.{is_given}
 use Rattle.tbl_columns.specs.Frames.{bars_seen, table_end}
 use Rattle.tbl_columns.specs.Held.{cell_number, cell_of, columns, height_of, placed}
 use Rattle.tbl_drawing.specs.declared.layout.Layout.{Layout}
@@ -115,10 +114,7 @@ pub record HasRoom (l : Layout) (ends : Bool) : Type 0 where
   pub steps : 4 * length l.grid.table.items.items + 4 ≤ l.steps.capacity
   pub lines : all_lines ends (ready l) < 18446744073709551615
 
--- each line of a field, but for a block that goes on over rows below
 abbrev pub FieldsStandOnce : Type 0
 FieldsStandOnce =
     (l : Layout) (ends : Bool) (n k : ℕ) → IsRead l.grid.table → HasRoom l ends → n < length (ready l).grid.cells.items
-    → k < height_of (ready l).grid (cell_of (ready l).grid n)
-    → ((cell_of (ready l).grid n).falls && is_given (cell_of (ready l).grid n).block) ≡ false
-    → StandsOnce (laid ends (ready l)) n k
+    → k < height_of (ready l).grid (cell_of (ready l).grid n) → StandsOnce (laid ends (ready l)) n k

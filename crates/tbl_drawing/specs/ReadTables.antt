@@ -2,7 +2,6 @@
 use Rattle.std.specs.Prelude.{◌≡◌, ℕ, ◌+◌, ◌<◌, ◌≤◌, Bool, true, false, ◌&&◌, [], length}
 use Rattle.tbl_columns.specs.declared.grid.Grid.{Grid}
 use Rattle.tbl_columns.specs.declared.grid.Room.{Room}
-use Rattle.tbl_columns.specs.Columns.{is_given}
 use Rattle.tbl_columns.specs.Frames.{table_end}
 use Rattle.tbl_columns.specs.Held.{cell_of, height_of, text}
 use Rattle.tbl_columns.specs.Laws.{FieldsStand, LeastSpansFit, LeastsFit, least_end, lines_in}
@@ -51,14 +50,12 @@ RowsReadGoOut =
     (most row : ℕ) (l : Layout) (ends : Bool) → IsMadeFor most row l → IsHeld l.grid.table
     → rows_of (laid ends (ready l)).steps.items ≡ own_rows (ready l) l.grid.table.items.items
 
--- and each line of a field stands once, but for a block that goes on over rows below
+-- and each line of a field stands once
 abbrev pub FieldsReadStandOnce : Type 0
 FieldsReadStandOnce =
     (most row : ℕ) (l : Layout) (ends : Bool) (n k : ℕ) → most + 128 < 18446744073709551616 → IsMadeFor most row l → IsHeld l.grid.table
     → all_lines ends (ready l) < 18446744073709551615 → n < length (ready l).grid.cells.items
-    → k < height_of (ready l).grid (cell_of (ready l).grid n)
-    → ((cell_of (ready l).grid n).falls && is_given (cell_of (ready l).grid n).block) ≡ false
-    → StandsOnce (laid ends (ready l)) n k
+    → k < height_of (ready l).grid (cell_of (ready l).grid n) → StandsOnce (laid ends (ready l)) n k
 
 -- ---- columns that are measured: each field stands in columns that are there, and the lines of a text are no wider than what it is filled
 -- in, where that is no less than its longest word

@@ -25,13 +25,13 @@ pub fn rows_go_out_once()
     ensures { RowsGoOut }
 {}
 
-/// Each line of a field stands on one line of those that go out, and on no other: in its row; text that goes on over rows below in
-/// one of these, beside its bars, or over a rule between two of them. So it is in each table, or part of one, where rows stand below
-/// one another in their order and there is room. Of blocks it is said of those that don't go on over rows below.
+/// Each line of a field stands on one line of those that go out, and on no other: in its row, or if it goes on over rows below in one
+/// of these, beside its bars, or over a rule between two of them; the lines of a block stand below one another in their order. So it
+/// is in each table, or part of one, where rows stand below one another in their order and there is room.
 ///
-/// Proved: In a table, or a part of one, each line of a field, but for a block that goes on over rows below, stands on one of the
-/// lines that go out, and on no other, where rows stand below one another in their order and there is room: in its row, or if it goes
-/// on over rows below in one of these, beside its bars, or over a rule between two of them.
+/// Proved: In a table, or a part of one, each line of a field, also of a block that goes on over rows below, stands on one of the
+/// lines that go out, and on no other, in the order of its lines, where rows stand below one another in their order and there is
+/// room: in its row, or if it goes on over rows below in one of these, beside its bars, or over a rule between two of them.
 pub fn fields_stand_once()
     ensures { FieldsStandOnce }
 {}
@@ -52,7 +52,7 @@ pub fn rows_are_read_in_order()
 /// each row goes out once and in its order, and each line of a field stands once, with no premise on its room.
 ///
 /// Proved: The room that is taken for a table of so many bytes, of fewer than 2^64 - 128, is enough for its fields and lines, if there
-/// are fewer than 2^64 - 1 lines: each row of it that takes room goes out once and in its order, and each line of a field, but for a
+/// are fewer than 2^64 - 1 lines: each row of it that takes room goes out once and in its order, and each line of a field, also of a
 /// block that goes on over rows below, stands once.
 pub fn room_is_enough()
     ensures room { RoomIsEnough }

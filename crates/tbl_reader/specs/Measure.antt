@@ -36,7 +36,7 @@ is_sign b =
     || (b == code "0") || (b == code "|") || (b == code "^") || (b == code "&") || (b == code "%")
     || (b == code " ")
 
--- fonts and characters by name; of a field with another escape nothing is sure
+-- fonts and characters by name; of a field with another escape what stands after it isn't sure
 abbrev pub escaped : ℕ → Place
 escaped b =
     if b == code "f" then Font else if b == code "(" then First else if is_sign b then Text else Unsure
@@ -65,13 +65,9 @@ abbrev pub all_cells : List ℕ → Cells → Cells
 all_cells [] c = c
 all_cells (b ∷ bs) c = all_cells bs (cells_with b c)
 
-abbrev pub sure : Place → ℕ → ℕ
-sure Text count = count
-sure place count = 0
-
--- how many cells a field surely needs
+-- how many cells a field needs at least
 abbrev pub cells_of : List ℕ → ℕ
-cells_of text = let c = all_cells text first_cells in sure c.place c.count
+cells_of text = (all_cells text first_cells).count
 
 -- ---- a table
 

@@ -160,7 +160,7 @@ fn plain_prefix(text: &[u8]) -> usize
     prefix
 }
 
-/// How many cells a field surely needs.
+/// How many cells a field needs at least: those before what isn't sure.
 pub(crate) fn cells_of(text: &[u8]) -> usize
     ensures value { result ≡ specs.cells_of text.now }
     ensures few { result ≤ length text.now }
@@ -171,10 +171,7 @@ pub(crate) fn cells_of(text: &[u8]) -> usize
     for byte in rest {
         cells = cells.with(*byte);
     }
-    match cells.place {
-        Place::Text => cells.count,
-        _ => 0,
-    }
+    cells.count
 }
 
 /// What a box takes of the line.

@@ -1,5 +1,6 @@
 -- What is heard of a page stays in the room that was taken for it.
 use Rattle.std.proofs.Common.{◌≡◌, ◌==◌, ℕ, Bool, true, false, not, List, [], ◌∷◌, Option, None, Some, codes, refl, ap, ◌∙◌, if◌then◌else◌}
+use Prim.Native.Char.{code}
 use Rattle.nr_units.specs.declared.units.Scale.TheVariants.{Unit}
 use Rattle.tbl_columns.specs.declared.grid.Grid.{Grid}
 use Rattle.tbl_columns.specs.Held as grids
@@ -73,7 +74,7 @@ byte_same : (cells b : ℕ) (s : Watching) → left cells (byte_heard b s) ≡ l
 unfolding left
 byte_same cells b s =
     let more : Watching = watching (record s.watch { line = added b s.watch.line }) s.grid in
-    either (left cells) (b == 10) (line_ended s) (if is_text s.watch.line.items then s else more) (left cells s)
+    either (left cells) (b == code "\n") (line_ended s) (if is_text s.watch.line.items then s else more) (left cells s)
     (ended_same cells s)
     (either (left cells) (is_text s.watch.line.items) s more (left cells s) refl refl)
 

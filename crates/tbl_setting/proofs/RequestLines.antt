@@ -2,6 +2,7 @@
 use Rattle.std.proofs.Common.{◌≡◌, ◌==◌, ℕ, suc, ◌+◌, ◌-◌, ◌<◌, ◌≤◌, Bool, true, false, not, List, [], ◌∷◌, ◌++◌, length, take, drop, min, nat_lt, refl, ap, sym, ◌∙◌, add-one, append_assoc, append-nil, arith, if◌then◌else◌}
 use Rattle.std.proofs.lemmas.List.{length-append}
 use Rattle.std.proofs.lemmas.Bool.Decides.{nat_tests}
+use Prim.Native.Char.{code}
 use Rattle.nr_vectors.specs.Items.{Items}
 use Rattle.tbl_setting.specs.Watching.{Watching, begins_control, byte_heard, filled, heard, held, is_text, line_ended, line_len, request_len, watching}
 use Rattle.tbl_setting.specs.declared.watching.Watch.{Watch}
@@ -67,7 +68,7 @@ no_text : (items : List ℕ) → begins_control items ≡ true → is_text items
 no_text [] none = absurd (let no : false ≡ true = none in cc)
 no_text (c ∷ cs) is = ap not is
 
-heard_so : (b : ℕ) (s : Watching) → (b == 10) ≡ false → begins_control s.watch.line.items ≡ true
+heard_so : (b : ℕ) (s : Watching) → (b == code "\n") ≡ false → begins_control s.watch.line.items ≡ true
     → byte_heard b s ≡ watching (record s.watch { line = added b s.watch.line }) s.grid
 heard_so b s other is =
     let more : Watching = watching (record s.watch { line = added b s.watch.line }) s.grid in
@@ -86,10 +87,10 @@ line_passed : (text : List ℕ) (s : Watching) → begins_control s.watch.line.i
     → heard (drop (line_len text) text) (with_line (filled (line_len text) text s.watch.line) s) ≡ heard text s
 line_passed [] s is = ap (λ (l : Items ℕ). with_line l s) (nothing_filled [] s.watch.line)
 line_passed (b ∷ bs) s is =
-    by_byte (line_passed bs (with_line (added b s.watch.line) s) (goes_on b s.watch.line is)) (b == 10) refl
+    by_byte (line_passed bs (with_line (added b s.watch.line) s) (goes_on b s.watch.line is)) (b == code "\n") refl
   where
     by_byte : heard (drop (line_len bs) bs) (with_line (filled (line_len bs) bs (added b s.watch.line)) s) ≡ heard bs (with_line (added b s.watch.line) s)
-        → (x : Bool) → (b == 10) ≡ x
+        → (x : Bool) → (b == code "\n") ≡ x
         → heard (drop (if x then 0 else line_len bs + 1) (b ∷ bs)) (with_line (filled (if x then 0 else line_len bs + 1) (b ∷ bs) s.watch.line) s)
         ≡ heard bs (byte_heard b s)
     by_byte later true newline = ap (λ (l : Items ℕ). heard (b ∷ bs) (with_line l s)) (nothing_filled (b ∷ bs) s.watch.line)

@@ -1,9 +1,10 @@
 -- A line of text says nothing.
 use Rattle.std.proofs.Common.{◌≡◌, ◌==◌, ℕ, ◌+◌, ◌<◌, Bool, true, false, List, [], ◌∷◌, length, drop, get_or, refl, ap, sym, ◌∙◌, add-one, arith, if◌then◌else◌}
+use Prim.Native.Char.{code}
 use Rattle.tbl_setting.specs.Watching.{Watching, byte_heard, heard, is_text, line_ended, line_len, text_len, watching}
 use Rattle.tbl_table.specs.Lists.{added}
 
-unheard : (b : ℕ) (s : Watching) → (b == 10) ≡ false → is_text s.watch.line.items ≡ true → byte_heard b s ≡ s
+unheard : (b : ℕ) (s : Watching) → (b == code "\n") ≡ false → is_text s.watch.line.items ≡ true → byte_heard b s ≡ s
 unheard b s other text =
     let heard_more : Watching = watching (record s.watch { line = added b s.watch.line }) s.grid in
     ap (λ (x : Bool). if x then line_ended s else (if is_text s.watch.line.items then s else heard_more)) other
@@ -15,9 +16,9 @@ after_one n b bs = ap (λ (k : ℕ). drop k (b ∷ bs)) (add-one n)
 -- so many bytes of it are passed
 pub text_passed : (text : List ℕ) (s : Watching) → is_text s.watch.line.items ≡ true → heard (drop (line_len text) text) s ≡ heard text s
 text_passed [] s is = refl
-text_passed (b ∷ bs) s is = by_byte (text_passed bs s is) (b == 10) refl
+text_passed (b ∷ bs) s is = by_byte (text_passed bs s is) (b == code "\n") refl
   where
-    by_byte : heard (drop (line_len bs) bs) s ≡ heard bs s → (x : Bool) → (b == 10) ≡ x
+    by_byte : heard (drop (line_len bs) bs) s ≡ heard bs s → (x : Bool) → (b == code "\n") ≡ x
         → heard (drop (if x then 0 else line_len bs + 1) (b ∷ bs)) s ≡ heard bs (byte_heard b s)
     by_byte later true newline = refl
     by_byte later false other =

@@ -7,9 +7,3 @@ loop-byte-init c = grind (arith, common_steps)
 
 pub loop-byte-preserved : goal.loop-byte-preserved
 loop-byte-preserved c = grind (arith, common_steps)
-
-pub returns-in-Text-clause-value : goal.returns-in-Text-clause-value
-returns-in-Text-clause-value c = grind (arith, common_steps)
-
-pub returns-in_default : goal.returns-in_default
-returns-in_default c = grind (arith, common_steps)
