@@ -20,7 +20,9 @@ impl<T: Copy, const N: usize> ArrayVec<T, N> {
     /// No items.
     #[inline]
     pub const fn new() -> Self {
-        ArrayVec { items: [MaybeUninit::uninit(); N], len: 0 }
+        // Sound: an item that need not be written may be anything. A repeated item would be written, N times.
+        let items = unsafe { MaybeUninit::<[MaybeUninit<T>; N]>::uninit().assume_init() };
+        ArrayVec { items, len: 0 }
     }
 
     /// Whether there is no room for another.
