@@ -1,3 +1,1 @@
 mod PageLines
-mod Printing
-mod Written

@@ -11,6 +11,7 @@ use Rattle.man_lint.specs.Laws.{ComplaintsHaveLines, IsIn, lines_in, newlines}
 use Rattle.man_lint.specs.Lines as lines
 use Rattle.man_lint.specs.Names.{defines, is_macro, is_request, is_string, leaves, names_first, opener_of, opens, reads_macros, region_end}
 use Rattle.man_lint.specs.OwnNames.{given, has}
+use Rattle.filters_complaints.specs.Complaints.{with_complaint}
 use Rattle.man_lint.specs.Reporting as reporting
 use Rattle.man_lint.specs.Reporting.{AllReported}
 use Rattle.man_lint.specs.Watching.{Page, acted, all_heard, block_called, byte_read, called, counted, defined_until, ended_at, ended_by, ends_all, finished, first_page, gone, heard, ignored, in_definition, is_empty, judged, line_ended, macro_called, macro_in, name_given, not_ended, opened, read_byte, read_escape, reported, requested, string_judged, taken, titled_at_end, unknown, with_blocks, with_macro, with_title}
@@ -36,7 +37,7 @@ record Kept (n begun : ℕ) (blocks : List OpenBlock) (complaints : List Complai
   complaints_in : ComplaintsIn n complaints
 
 abbrev Keeps : ℕ → Page → Type 0
-Keeps n p = Kept n p.place.begun p.blocks.items p.reports.complaints.items
+Keeps n p = Kept n p.place.begun p.blocks.items p.reports.first.items
 
 -- and the line at which it is
 abbrev Within : ℕ → Page → Type 0
@@ -49,7 +50,7 @@ wider : (m n : ℕ) (p : Page) → m ≤ n → Keeps m p → Keeps n p
 wider m n p le h = record {
   begun_in = omega (arith, h.begun_in);
   blocks_in = All-weaker (λ (b : OpenBlock). IsIn m b.line) (λ (b : OpenBlock). IsIn n b.line) (λ b. wider-line m n b.line le) p.blocks.items h.blocks_in;
-  complaints_in = All-weaker (λ (c : Complaint). IsIn m c.line) (λ (c : Complaint). IsIn n c.line) (λ c. wider-line m n c.line le) p.reports.complaints.items h.complaints_in;
+  complaints_in = All-weaker (λ (c : Complaint). IsIn m c.line) (λ (c : Complaint). IsIn n c.line) (λ c. wider-line m n c.line le) p.reports.first.items h.complaints_in;
 }
 
 either : (n : ℕ) (t : Bool) (p q : Page) → Within n p → Within n q → Within n (if t then p else q)
@@ -58,15 +59,15 @@ either n false p q a b = b
 
 -- ---- complaints
 
-added : (n : ℕ) (t : Bool) (c : Complaint) (r : AllReported) → IsIn n c.line → ComplaintsIn n r.complaints.items
-    → ComplaintsIn n (if t then record r { missed = true } else reporting.with_complaint c r).complaints.items
+added : (n : ℕ) (t : Bool) (c : Complaint) (r : AllReported) → IsIn n c.line → ComplaintsIn n r.first.items
+    → ComplaintsIn n (if t then record r { missed = true } else with_complaint c r).first.items
 added n true c r is h = h
-added n false c r is h = All-push (λ (x : Complaint). IsIn n x.line) r.complaints.items c h is
+added n false c r is h = All-push (λ (x : Complaint). IsIn n x.line) r.first.items c h is
 
-reported-in : (n : ℕ) (kind : Kind) (name : List ℕ) (line : ℕ) (r : AllReported) → IsIn n line → ComplaintsIn n r.complaints.items
-    → ComplaintsIn n (reporting.reported kind name line r).complaints.items
+reported-in : (n : ℕ) (kind : Kind) (name : List ℕ) (line : ℕ) (r : AllReported) → IsIn n line → ComplaintsIn n r.first.items
+    → ComplaintsIn n (reporting.reported kind name line r).first.items
 reported-in n kind name line r is h =
-    added n (length r.complaints.items == r.complaints.capacity) (record { kind = kind; name = name; line = line }) r is h
+    added n (length r.first.items == r.first.capacity) (record { kind = kind; name = name; line = line }) r is h
 
 reported-keeps : (n : ℕ) (kind : Kind) (name : List ℕ) (p : Page) → Within n p → Within n (reported kind name p)
 reported-keeps n kind name p (line, h) = (
@@ -280,8 +281,8 @@ last-by n b false p h =
 last-keeps : (n b : ℕ) (p : Page) → Within n p → Keeps n (heard b p)
 last-keeps n b p h = last-by n b p.place.left p h
 
-not_ended-in : (n : ℕ) (blocks : List OpenBlock) (r : AllReported) → BlocksIn n blocks → ComplaintsIn n r.complaints.items
-    → ComplaintsIn n (reporting.not_ended blocks r).complaints.items
+not_ended-in : (n : ℕ) (blocks : List OpenBlock) (r : AllReported) → BlocksIn n blocks → ComplaintsIn n r.first.items
+    → ComplaintsIn n (reporting.not_ended blocks r).first.items
 not_ended-in n [] r are h = h
 not_ended-in n (block ∷ blocks) r are h =
     not_ended-in n blocks (reporting.reported kinds.NotEnded block.name block.line r) (λ k d lt. are (suc k) d (omega arith))
@@ -303,13 +304,13 @@ begun-first k e = grind (arith, common_steps)
 titled-keeps : (n : ℕ) (p : Page) → Keeps n p → Keeps n (titled_at_end p)
 titled-keeps n p h = title-by n (nat_lt 0 p.place.begun) p.place.titled p (begun-first p.place.begun) h
 
-closed-by : (n : ℕ) (t : Bool) (p : Page) → Keeps n p → ComplaintsIn n (if t then p else not_ended (titled_at_end p)).reports.complaints.items
+closed-by : (n : ℕ) (t : Bool) (p : Page) → Keeps n p → ComplaintsIn n (if t then p else not_ended (titled_at_end p)).reports.first.items
 closed-by n true p h = h.complaints_in
 closed-by n false p h =
     let k : Keeps n (titled_at_end p) = titled-keeps n p h in
     not_ended-in n (titled_at_end p).blocks.items (titled_at_end p).reports k.blocks_in k.complaints_in
 
-finished-in : (n : ℕ) (p : Page) → Within n p → ComplaintsIn n (finished p).reports.complaints.items
+finished-in : (n : ℕ) (p : Page) → Within n p → ComplaintsIn n (finished p).reports.first.items
 unfolding finished
 finished-in n p h =
     let q : Page = heard (code "\n") p in

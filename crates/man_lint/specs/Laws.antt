@@ -20,4 +20,4 @@ lines_in page = 1 + newlines page
 
 -- EACH COMPLAINT IS OF A LINE OF THE PAGE
 abbrev pub ComplaintsHaveLines : Type 0
-ComplaintsHaveLines = (page : List ℕ) → All (λ (c : Complaint). IsIn (lines_in page) c.line) (faults_of page).complaints.items
+ComplaintsHaveLines = (page : List ℕ) → All (λ (c : Complaint). IsIn (lines_in page) c.line) (faults_of page).first.items

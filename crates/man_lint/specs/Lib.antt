@@ -7,5 +7,4 @@ pub mod Lines
 pub mod Names
 pub mod OwnNames
 pub mod Reporting
-pub mod Shown
 pub mod Watching

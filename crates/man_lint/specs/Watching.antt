@@ -11,6 +11,7 @@ use Rattle.man_lint.specs.Escapes as escapes
 use Rattle.man_lint.specs.Lines as lines
 use Rattle.man_lint.specs.Names.{defines, heads, is_macro, is_request, is_string, leaves, names_first, opener_of, opens, reads_macros, region_end}
 use Rattle.man_lint.specs.OwnNames.{AllNames, given, has, no_names}
+use Rattle.filters_complaints.specs.Complaints.{none_reported}
 use Rattle.man_lint.specs.Reporting as reporting
 use Rattle.man_lint.specs.Reporting.{AllReported}
 use Rattle.man_lint.specs.declared.blocks.OpenBlock.{OpenBlock}
@@ -44,7 +45,7 @@ first_page names blocks complaints = record {
   until = [];
   names = no_names names;
   blocks = record { items = []; capacity = blocks };
-  reports = reporting.nothing_reported complaints;
+  reports = none_reported complaints;
 }
 
 abbrev pub is_empty : List ℕ → Bool

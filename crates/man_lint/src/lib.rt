@@ -1,8 +1,8 @@
 //! What is wrong with the lines of a page of man(7): names that nothing defines, escapes that are none, blocks that are not ended
 //! or not open, and a title that is missing or late.
 //!
-//! It stands on filters, nr_units and nr_vectors. To read: `names`, `calls`, `lines`, `escapes`; `reporting`, `blocks`, `own_names`,
-//! `watching`; `shown`, `complaints`, `looking`, `laws`.
+//! It stands on filters, filters_complaints, nr_units and nr_vectors. To read: `names`, `calls`, `lines`, `escapes`; `reporting`, `blocks`, `own_names`,
+//! `watching`; `complaints`, `looking`, `laws`.
 #![tactic(auto)]
 
 mod blocks;
@@ -15,7 +15,6 @@ mod looking;
 mod names;
 mod own_names;
 mod reporting;
-mod shown;
 mod watching;
 
 pub use laws::complaints_have_lines;

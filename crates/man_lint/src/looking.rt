@@ -4,10 +4,10 @@ ghost use Rattle.filters.specs.Endings.{Tells};
 ghost use Rattle.man_lint.specs.Complaints.{faults_of, lines_of};
 
 use super::blocks::{MOST_OPEN, OpenBlock};
-use super::complaints::tell_complaints;
 use super::own_names::MOST_NAMES;
-use super::reporting::{MOST_COMPLAINTS, room_for};
+use super::reporting::room_for;
 use super::watching::Watch;
+use filters_complaints::{MOST_COMPLAINTS, tell_complaints};
 use nr_units::Name;
 use nr_units::sink::Sink;
 use std::alloc::{AllocError, Global};

@@ -3,13 +3,9 @@ ghost use Rattle.std.specs.Prelude.{◌≡◌, IfOk, length};
 ghost use Rattle.man_lint.specs.Reporting as specs;
 
 use super::blocks::OpenBlock;
+use filters_complaints::Complaints;
 use nr_units::Name;
-use nr_vectors::slice_vec::SliceVec;
 use std::alloc::{AllocError, Global};
-use std::marker::Model;
-
-/// How many complaints of a page are reported.
-pub const MOST_COMPLAINTS: usize = 64;
 
 /// What is wrong with a name of a line.
 #[derive(Clone, Copy)]
@@ -55,63 +51,15 @@ pub fn room_for(n: usize, alloc: Global) -> Result<Vec<Complaint>, AllocError>
     vec![in alloc; none; n]
 }
 
-/// What is reported of a page.
-#[derive(Drop)]
-pub struct Reports<'a> {
-    complaints: SliceVec<'a, Complaint>,
-    missed: bool,
-}
-
-impl<'a> Model for Reports<'a> {
-    ghost use Rattle.man_lint.specs.Reporting.{AllReported};
-
-    ghost Value = { AllReported };
-
-    ghost view = { λ t. record { complaints = t.complaints; missed = t.missed } };
-}
-
-impl<'a> Reports<'a> {
-    /// Nothing is reported: complaints come into this room.
-    pub fn over(room: &'a mut [Complaint]) -> Reports<'a>
-        ensures { result ≡ specs.nothing_reported (length room.entry.now) }
-    {
-        Reports {
-            complaints: SliceVec::over(room),
-            missed: false,
-        }
-    }
-
-    /// The first complaints, as many as there is room for.
-    pub fn complaints(&self) -> &[Complaint]
-        ensures { result.now ≡ self.now.complaints.items }
-    {
-        self.complaints.as_slice()
-    }
-
-    /// There was more to report.
-    pub fn has_missed(&self) -> bool
-        ensures { result ≡ self.now.missed }
-    {
-        self.missed
-    }
-
-    /// Reports what is wrong with a name of a line.
-    pub fn report(&mut self, kind: Kind, name: Name, line: u64)
-        ensures { self.new ≡ specs.reported kind name line self.old }
-    {
-        if self.complaints.is_full() {
-            self.missed = true;
-        } else {
-            self.complaints.push(Complaint { kind, name, line });
-        }
-    }
-
-    /// Reports that nothing ends these blocks, at the lines where they were opened.
-    pub fn report_not_ended(&mut self, blocks: &[OpenBlock])
-        ensures { self.new ≡ specs.not_ended blocks.now self.old }
-    {
-        for block in blocks {
-            self.report(Kind::NotEnded, block.name, block.line);
-        }
+/// Reports that nothing ends these blocks, at the lines where they were opened.
+pub fn report_not_ended(blocks: &[OpenBlock], complaints: &mut Complaints<'_, Complaint>)
+    ensures { complaints.new ≡ specs.not_ended blocks.now complaints.old }
+{
+    for block in blocks {
+        complaints.report(Complaint {
+            kind: Kind::NotEnded,
+            name: block.name,
+            line: block.line,
+        });
     }
 }

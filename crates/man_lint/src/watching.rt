@@ -11,7 +11,8 @@ use super::names::{
     reads_macros, region_end,
 };
 use super::own_names::OwnNames;
-use super::reporting::{Complaint, Kind, Reports};
+use super::reporting::{Complaint, Kind, report_not_ended};
+use filters_complaints::Complaints;
 use nr_units::Name;
 use nr_vectors::slice_vec::SliceVec;
 use std::marker::Model;
@@ -62,7 +63,7 @@ pub struct Watch<'a> {
     names: OwnNames<'a>,
     /// Its blocks that are open, the last of them first.
     blocks: SliceVec<'a, OpenBlock>,
-    reports: Reports<'a>,
+    reports: Complaints<'a, Complaint>,
 }
 
 impl<'a> Model for Watch<'a> {
@@ -97,12 +98,12 @@ impl<'a> Watch<'a> {
             until: Name::new(),
             names: OwnNames::over(names),
             blocks: SliceVec::over(blocks),
-            reports: Reports::over(complaints),
+            reports: Complaints::over(complaints),
         }
     }
 
     /// What is reported.
-    pub fn reports(&self) -> &Reports<'a>
+    pub fn reports(&self) -> &Complaints<'a, Complaint>
         ensures { result.now ≡ self.now.reports }
     {
         &self.reports
@@ -112,7 +113,7 @@ impl<'a> Watch<'a> {
     ///
     /// Proved: What is reported of a page of man(7) is what the definition finds wrong with it: macros, requests, strings
     /// and escapes that nothing defines, ends of blocks that are not open, blocks that are not ended, and a title that is
-    /// missing or late. (`Watch::hear`, `Watch::finish`; `tell_complaints` in complaints.rt writes it)
+    /// missing or late. (`Watch::hear`, `Watch::finish`; `tell_complaints` of filters_complaints writes it)
     pub fn hear(&mut self, byte: u8)
         ensures { self.new ≡ specs.heard byte self.old }
     {
@@ -149,9 +150,13 @@ impl<'a> Watch<'a> {
         }
         if self.place.begun > 0 && !self.place.titled {
             let line = self.place.begun;
-            self.reports.report(Kind::NoTitle, Name::of(b"TH"), line);
+            self.reports.report(Complaint {
+                kind: Kind::NoTitle,
+                name: Name::of(b"TH"),
+                line,
+            });
         }
-        self.reports.report_not_ended(self.blocks.as_slice());
+        report_not_ended(self.blocks.as_slice(), &mut self.reports);
     }
 
     /// A byte that is none of a comment.
@@ -381,6 +386,6 @@ impl<'a> Watch<'a> {
         ensures { self.new ≡ specs.reported kind name self.old }
     {
         let line = self.place.line;
-        self.reports.report(kind, name, line);
+        self.reports.report(Complaint { kind, name, line });
     }
 }
