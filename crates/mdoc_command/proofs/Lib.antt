@@ -1,4 +1,3 @@
-mod Printing
 mod Turns
 mod Unread
 mod Written

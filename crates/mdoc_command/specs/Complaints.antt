@@ -1,8 +1,8 @@
 -- The lines that tell what is wrong with pages.
-use Rattle.std.specs.Prelude.{ℕ, List, [], ◌∷◌, ◌++◌, length, map, Bool, ◌==◌, if◌then◌else◌, codes, decimal}
-use Rattle.std.specs.List.{concat, flat_map}
+use Rattle.std.specs.Prelude.{ℕ, List, [], ◌++◌, length, Bool, ◌==◌, if◌then◌else◌, codes}
 use Rattle.std.specs.Str.{bytes_eq}
-use Rattle.mdoc_command.specs.Shown.{shown_byte}
+use Rattle.filters_complaints.specs.Lines as lines
+use Rattle.filters_complaints.specs.Names.{printable}
 use Rattle.mdoc_command.specs.Telling.{AllReported}
 use Rattle.mdoc_command.specs.Watching.{all_heard, finished, first_page}
 use Rattle.mdoc_command.specs.declared.complaints.Parts.{Parts}
@@ -10,13 +10,9 @@ use Rattle.mdoc_command.specs.declared.telling.Complaint.{Complaint}
 use Rattle.mdoc_command.specs.declared.telling.Kind.{Kind}
 use Rattle.mdoc_command.specs.declared.telling.Kind.TheVariants.{Unknown, NotOpen, TooMany, Nested, Broken, NotEnded, Outside, NoKind, BadWord, NoSection, Empty, Words, Late, OpenQuote}
 
--- a name as it is reported
-abbrev pub shown : List ℕ → List ℕ
-shown name = map shown_byte name
-
 -- what is wrong, and the name of a macro
 abbrev pub about : List ℕ → List ℕ → List ℕ
-about what name = what ++ shown name
+about what name = what ++ printable name
 
 -- what was cut of a name stands as dots
 abbrev pub unknown : List ℕ → Bool → List ℕ
@@ -24,11 +20,11 @@ unknown name cut = about (codes "unknown macro: ") name ++ (if cut then codes ".
 
 -- with its word, where that is kept
 abbrev pub about_word : List ℕ → List ℕ → List ℕ → List ℕ
-about_word what name word = about what name ++ (if length word == 0 then [] else codes " " ++ shown word)
+about_word what name word = about what name ++ (if length word == 0 then [] else codes " " ++ printable word)
 
 -- the first of two macros breaks the block of the second
 abbrev pub breaks : List ℕ → List ℕ → List ℕ → List ℕ
-breaks what by block = about what by ++ (codes " breaks " ++ shown block)
+breaks what by block = about what by ++ (codes " breaks " ++ printable block)
 
 -- ---- what is wrong
 
@@ -65,29 +61,19 @@ kind_text (OpenQuote name) = about (codes "unterminated quoted argument: ") name
 
 -- as it is written, up to the end of the line
 abbrev pub rest_text : List ℕ → List ℕ → List ℕ → List ℕ → List ℕ
-rest_text what first between second = what ++ (shown first ++ (between ++ (shown second ++ codes "\n")))
+rest_text what first between second = what ++ (printable first ++ (between ++ (printable second ++ codes "\n")))
 
 abbrev pub parts_text : Parts → List ℕ
-parts_text parts = about parts.what.now parts.first ++ (parts.between.now ++ shown parts.second)
+parts_text parts = about parts.what.now parts.first ++ (parts.between.now ++ printable parts.second)
 
 -- ---- lines
 
--- how a line begins that a program tells of a line of the text of this name
-abbrev pub place_text : List ℕ → List ℕ → List ℕ → List ℕ
-place_text program name line = concat (program ∷ codes ": " ∷ name ∷ codes ":" ∷ line ∷ codes ": " ∷ [])
-
-abbrev pub complaint_line : List ℕ → List ℕ → Complaint → List ℕ
-complaint_line program name c = place_text program name (decimal c.line) ++ (kind_text c.kind ++ codes "\n")
-
--- there was more to tell
-abbrev pub more_lines : List ℕ → List ℕ → Bool → List ℕ
-more_lines program name missed =
-    if missed then concat (program ∷ codes ": " ∷ name ∷ codes ": and more\n" ∷ []) else []
+abbrev pub said_of : Complaint → List ℕ
+said_of c = kind_text c.kind ++ codes "\n"
 
 -- THE LINES of a program about the text of this name, of which this is reported
 abbrev pub lines_of : List ℕ → List ℕ → AllReported → List ℕ
-lines_of program name t =
-    flat_map (complaint_line program name) t.complaints.items ++ more_lines program name t.missed
+lines_of program name t = lines.lines_of (λ (c : Complaint). c.line) said_of program name t
 
 -- What is reported of a whole page: of 64 blocks that are open at once, and 64 complaints.
 abbrev pub reported_of : List ℕ → AllReported

@@ -3,7 +3,6 @@ pub mod Complaints
 pub mod Converting
 pub mod Lines
 pub mod Names
-pub mod Shown
 pub mod Telling
 pub mod Watching
 pub mod Wording

@@ -1,25 +1,16 @@
--- What is reported of a page: the first complaints, as many as there is room for, and whether there was more.
-use Rattle.std.specs.Prelude.{ℕ, List, [], ◌∷◌, ◌++◌, length, Bool, true, false, ◌==◌, if◌then◌else◌}
-use Rattle.nr_vectors.specs.Items.{Items}
+-- What is reported of a page.
+use Rattle.std.specs.Prelude.{ℕ, List, [], ◌∷◌}
+use Rattle.filters_complaints.specs.Complaints as complaints
 use Rattle.mdoc_command.specs.declared.blocks.OpenBlock.{OpenBlock}
 use Rattle.mdoc_command.specs.declared.telling.Complaint.{Complaint}
 use Rattle.mdoc_command.specs.declared.telling.Kind.{Kind}
 use Rattle.mdoc_command.specs.declared.telling.Kind.TheVariants as kinds
 
-pub record AllReported : Type 0 where
-  pub complaints : Items Complaint
-  pub missed : Bool
-
-abbrev pub nothing_reported : ℕ → AllReported
-nothing_reported capacity = record { complaints = record { items = []; capacity = capacity }; missed = false }
-
-abbrev pub with_complaint : Complaint → AllReported → AllReported
-with_complaint c t = record t { complaints = record t.complaints { items = t.complaints.items ++ c ∷ [] } }
+abbrev pub AllReported : Type 0
+AllReported = complaints.AllReported Complaint
 
 abbrev pub reported : Kind → ℕ → AllReported → AllReported
-reported kind line t =
-    if length t.complaints.items == t.complaints.capacity then record t { missed = true } else
-    with_complaint (record { kind = kind; line = line }) t
+reported kind line r = complaints.reported (record { kind = kind; line = line }) r
 
 -- a heading or an item ends blocks: the last that was opened first
 abbrev pub broken : List ℕ → ℕ → List OpenBlock → AllReported → AllReported

@@ -19,6 +19,7 @@ use Rattle.mdoc_command.specs.Lines as lines
 use Rattle.mdoc_command.specs.Names.{opener_of, opens}
 use Rattle.mdoc_command.specs.declared.wording.Wording.{Wording}
 use Rattle.mdoc_command.specs.Wording.{fault, line_of, more, no_line, taking}
+use Rattle.filters_complaints.specs.Complaints.{none_reported}
 use Rattle.mdoc_command.specs.Telling as telling
 use Rattle.mdoc_command.specs.Telling.{AllReported}
 
@@ -33,7 +34,7 @@ abbrev pub first_page : ℕ → ℕ → Page
 first_page blocks complaints = record {
   half = lines.first;
   blocks = record { items = []; capacity = blocks };
-  reported = telling.nothing_reported complaints;
+  reported = none_reported complaints;
   wording = no_line;
   headed = false;
 }

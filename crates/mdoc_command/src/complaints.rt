@@ -1,16 +1,13 @@
-// The lines that tell what is wrong with pages.
-ghost use Rattle.std.specs.Prelude.{◌≡◌, ◌||◌, ◌==◌, OnOk, OnErr, length, not};
+// What the line of a complaint says.
+ghost use Rattle.std.specs.Prelude.{◌≡◌, OnOk, OnErr};
 ghost use Rattle.std.specs.Io.KnownBytes.{Appends};
-ghost use Rattle.std.specs.List.{flat_map};
 ghost use Rattle.nr_units.specs.Failures.{put_counted};
 ghost use Rattle.nr_units.specs.Sink.{AppendsPrefix};
-ghost use Rattle.filters.specs.Endings.{Tells};
 ghost use Rattle.mdoc_command.specs.Complaints as specs;
 
-use super::shown::shown;
-use super::telling::{Complaint, Kind, Reported};
+use super::telling::{Complaint, Kind};
 use filters::put_all;
-use itoa::Buffer;
+use filters_complaints::{Complains, printable};
 use nr_units::Name;
 use nr_units::sink::Sink;
 use nr_units::source::Fault;
@@ -148,25 +145,6 @@ fn parts_of(kind: Kind) -> Parts
     }
 }
 
-/// Writes how each line begins that is about a line of the text of this name.
-fn put_place<E: Sink>(program: &str, name: &str, line: &str, errors: &mut E) -> Result<(), Fault>
-    ensures ok { OnOk result (Appends (E.held errors.old) (E.held errors.new)
-        (specs.place_text program.now name.now line.now)) }
-    ensures err { OnErr result (AppendsPrefix (E.held errors.old) (E.held errors.new)
-        (specs.place_text program.now name.now line.now)) }
-    ensures failures { E.failures errors.new ≡ put_counted (E.failures errors.old) result }
-{
-    let parts = [
-        program.as_bytes(),
-        b": ",
-        name.as_bytes(),
-        b":",
-        line.as_bytes(),
-        b": ",
-    ];
-    put_all(&parts, errors)
-}
-
 /// Writes the rest of the line, with names as they are reported.
 fn put_parts<E: Sink>(
     what: &[u8],
@@ -181,96 +159,25 @@ fn put_parts<E: Sink>(
         (specs.rest_text what.now first between.now second)) }
     ensures failures { E.failures errors.new ≡ put_counted (E.failures errors.old) result }
 {
-    let first = shown(first);
-    let second = shown(second);
+    let first = printable(first);
+    let second = printable(second);
     let parts = [what, first.as_bytes(), between, second.as_bytes(), b"\n"];
     put_all(&parts, errors)
 }
 
-/// Writes the line of a complaint of this program about the text of this name.
-fn put_complaint<E: Sink>(
-    program: &str,
-    name: &str,
-    complaint: Complaint,
-    errors: &mut E,
-) -> Result<(), Fault>
-    ensures ok { OnOk result (Appends (E.held errors.old) (E.held errors.new)
-        (specs.complaint_line program.now name.now complaint)) }
-    ensures err { OnErr result (AppendsPrefix (E.held errors.old) (E.held errors.new)
-        (specs.complaint_line program.now name.now complaint)) }
-    ensures failures { E.failures errors.new ≡ put_counted (E.failures errors.old) result }
-{
-    let mut digits = Buffer::new();
-    put_place(program, name, digits.format(complaint.line), errors)?;
-    let parts = parts_of(complaint.kind);
-    put_parts(parts.what, parts.first, parts.between, parts.second, errors)
-}
+impl Complains for Complaint {
+    ghost use Rattle.mdoc_command.specs.Complaints.{said_of};
 
-/// Writes a line for each of the complaints, up to the first fault of a write.
-fn put_complaints<E: Sink>(
-    program: &str,
-    name: &str,
-    complaints: &[Complaint],
-    errors: &mut E,
-) -> Result<(), Fault>
-    ensures ok { OnOk result (Appends (E.held errors.old) (E.held errors.new)
-        (flat_map (specs.complaint_line program.now name.now) complaints.now)) }
-    ensures err { OnErr result (AppendsPrefix (E.held errors.old) (E.held errors.new)
-        (flat_map (specs.complaint_line program.now name.now) complaints.now)) }
-    ensures failures { E.failures errors.new ≡ put_counted (E.failures errors.old) result }
-{
-    for complaint in complaints {
-        put_complaint(program, name, *complaint, errors)?;
+    ghost at = { λ c. c.line };
+
+    ghost says = { said_of };
+
+    fn line(&self) -> u64 {
+        self.line
     }
-    Ok(())
-}
 
-/// Writes that there was more to tell, where there was.
-fn put_more<E: Sink>(program: &str, name: &str, missed: bool, errors: &mut E) -> Result<(), Fault>
-    ensures ok { OnOk result (Appends (E.held errors.old) (E.held errors.new)
-        (specs.more_lines program.now name.now missed)) }
-    ensures err { OnErr result (AppendsPrefix (E.held errors.old) (E.held errors.new)
-        (specs.more_lines program.now name.now missed)) }
-    ensures failures { E.failures errors.new ≡ put_counted (E.failures errors.old) result }
-{
-    if !missed {
-        return Ok(());
+    fn put<E: Sink>(&self, errors: &mut E) -> Result<(), Fault> {
+        let parts = parts_of(self.kind);
+        put_parts(parts.what, parts.first, parts.between, parts.second, errors)
     }
-    let parts = [program.as_bytes(), b": ", name.as_bytes(), b": and more\n"];
-    put_all(&parts, errors)
-}
-
-/// Writes what is reported of the text of this name, up to the first fault of a write.
-fn put_reported<E: Sink>(
-    program: &str,
-    name: &str,
-    reported: &Reported<'_>,
-    errors: &mut E,
-) -> Result<(), Fault>
-    ensures ok { OnOk result (Appends (E.held errors.old) (E.held errors.new)
-        (specs.lines_of program.now name.now reported.now)) }
-    ensures err { OnErr result (AppendsPrefix (E.held errors.old) (E.held errors.new)
-        (specs.lines_of program.now name.now reported.now)) }
-    ensures failures { E.failures errors.new ≡ put_counted (E.failures errors.old) result }
-{
-    put_complaints(program, name, reported.complaints(), errors)?;
-    put_more(program, name, reported.has_missed(), errors)
-}
-
-/// This program tells what is reported of the text of this name, as far as `errors` takes it, and whether something is.
-///
-/// Proved: Each complaint about a text is written, in one line with the text's name and the line of the fault, in their
-/// order: all of them, or a prefix where a call failed.
-pub fn tell_complaints<E: Sink>(
-    program: &str,
-    name: &str,
-    reported: &Reported<'_>,
-    errors: &mut E,
-) -> bool
-    ensures reported { Tells (E.held errors.old) (E.held errors.new) (E.failures errors.old) (E.failures errors.new)
-        (specs.lines_of program.now name.now reported.now) }
-    ensures wrong { result ≡ (reported.now.missed || not (length reported.now.complaints.items == 0)) }
-{
-    let _ = put_reported(program, name, reported, errors);
-    reported.has_missed() || !reported.complaints().is_empty()
 }

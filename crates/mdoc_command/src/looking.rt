@@ -4,9 +4,9 @@ ghost use Rattle.filters.specs.Endings.{Tells};
 ghost use Rattle.mdoc_command.specs.Complaints.{lines_of, reported_of};
 
 use super::blocks::{MOST_OPEN, OpenBlock};
-use super::complaints::tell_complaints;
-use super::telling::{MOST_COMPLAINTS, room_for};
+use super::telling::room_for;
 use super::watching::Watch;
+use filters_complaints::{MOST_COMPLAINTS, tell_complaints};
 use nr_units::sink::Sink;
 use std::alloc::{AllocError, Global};
 

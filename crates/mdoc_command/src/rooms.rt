@@ -3,11 +3,11 @@ ghost use Rattle.std.specs.Prelude.{◌≡◌, ◌≤◌, length};
 ghost use Rattle.mdoc_command.specs.Converting.{ending_of};
 
 use super::blocks::{MOST_OPEN, OpenBlock};
-use super::complaints::tell_complaints;
-use super::telling::{Complaint, MOST_COMPLAINTS, room_for};
+use super::telling::{Complaint, room_for};
 use super::watched::Watched;
 use super::watching::Watch;
 use filters::{BUFFER_SIZE, Ending, Turns};
+use filters_complaints::{MOST_COMPLAINTS, tell_complaints};
 use mdoc_converter::{Block, RunEnd, convert};
 use nr_units::buffered::Buffered;
 use nr_units::sink::Sink;
@@ -74,7 +74,8 @@ impl Turns for Rooms {
             &mut self.pending,
             &mut steps,
         );
-        let wrong = tell_complaints("mdoc", name, watched.reported(), errors);
+        tell_complaints("mdoc", name, watched.reported(), errors);
+        let wrong = watched.reported().are_some();
         (ended(outcome, wrong), output)
     }
 }

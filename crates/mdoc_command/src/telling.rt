@@ -3,13 +3,9 @@ ghost use Rattle.std.specs.Prelude.{◌≡◌, IfOk, length};
 ghost use Rattle.mdoc_command.specs.Telling as specs;
 
 use super::blocks::OpenBlock;
+use filters_complaints::Complaints;
 use nr_units::Name;
-use nr_vectors::slice_vec::SliceVec;
 use std::alloc::{AllocError, Global};
-use std::marker::Model;
-
-/// How many complaints about a text are reported.
-pub const MOST_COMPLAINTS: usize = 64;
 
 /// What is wrong with a line, and the macros that it is about.
 #[derive(Clone, Copy)]
@@ -64,75 +60,31 @@ pub fn room_for(n: usize, alloc: Global) -> Result<Vec<Complaint>, AllocError>
     vec![in alloc; none; n]
 }
 
-/// What is reported of a page.
-#[derive(Drop)]
-pub struct Reported<'a> {
-    complaints: SliceVec<'a, Complaint>,
-    missed: bool,
+/// Reports that the macro of a line ends these blocks, one after the other.
+pub fn report_broken(
+    by: Name,
+    line: u64,
+    blocks: &[OpenBlock],
+    complaints: &mut Complaints<'_, Complaint>,
+)
+    ensures { complaints.new ≡ specs.broken by line blocks.now complaints.old }
+{
+    for block in blocks {
+        complaints.report(Complaint {
+            kind: Kind::Broken(by, block.name),
+            line,
+        });
+    }
 }
 
-impl<'a> Model for Reported<'a> {
-    ghost use Rattle.mdoc_command.specs.Telling.{AllReported};
-
-    ghost Value = { AllReported };
-
-    ghost view = { λ t. record { complaints = t.complaints; missed = t.missed } };
-}
-
-impl<'a> Reported<'a> {
-    /// Nothing is reported: complaints come into this room.
-    pub fn over(room: &'a mut [Complaint]) -> Reported<'a>
-        ensures { result ≡ specs.nothing_reported (length room.entry.now) }
-    {
-        Reported {
-            complaints: SliceVec::over(room),
-            missed: false,
-        }
-    }
-
-    /// The first complaints, as many as there is room for.
-    pub fn complaints(&self) -> &[Complaint]
-        ensures { result.now ≡ self.now.complaints.items }
-    {
-        self.complaints.as_slice()
-    }
-
-    /// There was more to tell.
-    pub fn has_missed(&self) -> bool
-        ensures { result ≡ self.now.missed }
-    {
-        self.missed
-    }
-
-    /// Tells what is wrong with a line.
-    ///
-    /// Proved: The first complaints on a page are reported, as many as there is room for, and whether there were
-    /// more.
-    pub fn tell(&mut self, kind: Kind, line: u64)
-        ensures { self.new ≡ specs.reported kind line self.old }
-    {
-        if self.complaints.is_full() {
-            self.missed = true;
-        } else {
-            self.complaints.push(Complaint { kind, line });
-        }
-    }
-
-    /// Tells that the macro of a line ends these blocks, one after the other.
-    pub fn tell_broken(&mut self, by: Name, line: u64, blocks: &[OpenBlock])
-        ensures { self.new ≡ specs.broken by line blocks.now self.old }
-    {
-        for block in blocks {
-            self.tell(Kind::Broken(by, block.name), line);
-        }
-    }
-
-    /// Tells that nothing ends these blocks, at the lines where they were opened.
-    pub fn tell_not_ended(&mut self, blocks: &[OpenBlock])
-        ensures { self.new ≡ specs.not_ended blocks.now self.old }
-    {
-        for block in blocks {
-            self.tell(Kind::NotEnded(block.name), block.line);
-        }
+/// Reports that nothing ends these blocks, at the lines where they were opened.
+pub fn report_not_ended(blocks: &[OpenBlock], complaints: &mut Complaints<'_, Complaint>)
+    ensures { complaints.new ≡ specs.not_ended blocks.now complaints.old }
+{
+    for block in blocks {
+        complaints.report(Complaint {
+            kind: Kind::NotEnded(block.name),
+            line: block.line,
+        });
     }
 }

@@ -1,8 +1,9 @@
 // A source whose lines are watched.
 ghost use Rattle.std.specs.Prelude.{◌≡◌};
 
-use super::telling::Reported;
+use super::telling::Complaint;
 use super::watching::Watch;
+use filters_complaints::Complaints;
 use nr_units::source::{Fault, Source};
 
 /// A source, and the page that it gives.
@@ -22,7 +23,7 @@ impl<'a, S: Source + Drop> Watched<'a, S> {
     }
 
     /// What is reported of the page.
-    pub fn reported(&self) -> &Reported<'a> {
+    pub fn reported(&self) -> &Complaints<'a, Complaint> {
         self.page.reported()
     }
 }

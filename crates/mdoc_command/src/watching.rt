@@ -5,8 +5,9 @@ ghost use Rattle.mdoc_command.specs.Watching as specs;
 use super::blocks::{OpenBlock, place_of};
 use super::lines::{Half, Line, Whole};
 use super::names::{opener_of, opens};
-use super::telling::{Complaint, Kind, Reported};
+use super::telling::{Complaint, Kind, report_broken, report_not_ended};
 use super::wording::Wording;
+use filters_complaints::Complaints;
 use mdoc_converter::is_macro;
 use nr_units::Name;
 use nr_vectors::slice_vec::SliceVec;
@@ -17,7 +18,7 @@ use std::marker::Model;
 pub struct Watch<'a> {
     half: Half,
     blocks: SliceVec<'a, OpenBlock>,
-    reported: Reported<'a>,
+    reported: Complaints<'a, Complaint>,
     /// The line of a macro.
     wording: Wording,
     /// A section has begun.
@@ -58,14 +59,14 @@ impl<'a> Watch<'a> {
         Watch {
             half: Half::new(),
             blocks: SliceVec::over(blocks),
-            reported: Reported::over(complaints),
+            reported: Complaints::over(complaints),
             wording: Wording::none(),
             headed: false,
         }
     }
 
     /// What is reported.
-    pub fn reported(&self) -> &Reported<'a>
+    pub fn reported(&self) -> &Complaints<'a, Complaint>
         ensures { result.now ≡ self.now.reported }
     {
         &self.reported
@@ -76,7 +77,7 @@ impl<'a> Watch<'a> {
     /// Proved: What is reported of a page is what the definition finds wrong with it: macros that are none, blocks
     /// and enclosures that nothing ends, ends of what is not open or in the wrong order, too many that are open, what
     /// stands outside of its list or comes after the title's place, and the words of a macro's line. (`Watch::hear`,
-    /// `Watch::finish`; `tell_complaints` in complaints.rt writes it)
+    /// `Watch::finish`; `tell_complaints` of filters_complaints writes it)
     #[inline(always)]
     pub fn hear(&mut self, byte: u8)
         ensures { self.new ≡ specs.heard byte self.old }
@@ -150,7 +151,7 @@ impl<'a> Watch<'a> {
         };
         if let Some(kind) = wrong {
             let line = self.wording.line;
-            self.reported.tell(kind, line);
+            self.reported.report(Complaint { kind, line });
         }
     }
 
@@ -170,7 +171,7 @@ impl<'a> Watch<'a> {
     pub fn finish(&mut self)
         ensures { self.new ≡ specs.finished self.old }
     {
-        self.reported.tell_not_ended(self.blocks.as_slice());
+        report_not_ended(self.blocks.as_slice(), &mut self.reported);
         self.blocks.clear();
     }
 
@@ -179,7 +180,7 @@ impl<'a> Watch<'a> {
         ensures { self.new ≡ specs.reported kind self.old }
     {
         let line = self.half.number;
-        self.reported.tell(kind, line);
+        self.reported.report(Complaint { kind, line });
     }
 
     /// A macro begins a line.
@@ -235,8 +236,8 @@ impl<'a> Watch<'a> {
     {
         let by = self.half.name;
         let line = self.half.number;
-        self.reported
-            .tell_broken(by, line, &self.blocks.as_slice()[..n]);
+        let ended = &self.blocks.as_slice()[..n];
+        report_broken(by, line, ended, &mut self.reported);
         self.blocks.remove_prefix(n);
     }
 

@@ -14,9 +14,9 @@ returns-in_err-put_complaint-clause-err g c =
     let all = c.args.complaints.now in
     let at = c.loop-complaint.complaint-index in
     let item = c.complaint-item in
-    let front = AppendsPrefix-after _ _ _ _ _ c.loop-complaint.invariant.put c.in_err-put_complaint.ensures.err in
-    let begun = AppendsPrefix-append _ _ _ (flat_map line (drop (at + 1) all)) front in
-    let told = subst (AppendsPrefix _ _) (sym (lines-at line all at item.result c.loop-complaint-test.true item.is)) begun in
+    let prefix = AppendsPrefix-after _ _ _ _ _ c.loop-complaint.invariant.put c.in_err-put_complaint.ensures.err in
+    let begun = AppendsPrefix-append _ _ _ (flat_map line (drop (at + 1) all)) prefix in
+    let reported = subst (AppendsPrefix _ _) (sym (lines-at line all at item.result c.loop-complaint-test.true item.is)) begun in
     search rules
 
 pub loop-complaint-preserved : goal.loop-complaint-preserved

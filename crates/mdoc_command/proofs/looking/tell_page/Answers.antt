@@ -12,4 +12,4 @@ returns-clause-reported g c =
     let first = c.over-page.ensures ∙ (ap (λ (n : ℕ). first_page n (length c.deref_mut-2.result.now)) blocks ∙ ap (first_page 64) complaints) in
     let page = c.finish.ensures ∙ ap finished (c.hear_all.ensures ∙ ap (all_heard c.args.text.now) first) in
     subst (λ (t : AllReported). Tells (g.E.Sink.held c.args.errors.now) (g.E.Sink.held c.tell_complaints.new.errors) (g.E.Sink.failures c.args.errors.now) (g.E.Sink.failures c.tell_complaints.new.errors) (lines_of c.args.program.now c.args.name.now t))
-    (c.reported.ensures ∙ ap (λ (p : Page). p.reported) page) c.tell_complaints.ensures.reported
+    (c.reported.ensures ∙ ap (λ (p : Page). p.reported) page) c.tell_complaints.ensures

@@ -1,6 +1,6 @@
 use Rattle.std.proofs.Common.{arith}
 use Rattle.std.proofs.lemmas.Grind.{common_steps}
-use Rattle.mdoc_command.proofs.telling.Reported.tell_not_ended.Goals as goal
+use Rattle.mdoc_command.proofs.telling.report_not_ended.Goals as goal
 
 pub loop-block-preserved : goal.loop-block-preserved
 loop-block-preserved c = grind (arith, common_steps)

@@ -1,6 +1,0 @@
-use Rattle.std.proofs.Common.{◌≡◌, drop}
-use Rattle.mdoc_command.specs.Telling.{not_ended}
-use Rattle.mdoc_command.proofs.telling.Reported.tell_not_ended.Given as goal
-
-abbrev pub invariant-loop-block : goal.invariant-loop-block
-invariant-loop-block l = not_ended (drop l.block-index l.blocks) l.self ≡ not_ended l.blocks l.initial.self
