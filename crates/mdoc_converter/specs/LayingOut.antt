@@ -30,6 +30,7 @@ lay_request (acts.Hanging n) p = put_hanging n p
 lay_request (acts.Numbered n width) p = put_numbered n width p
 lay_request acts.Title p = put_title p
 lay_request acts.TitlePrefix p = put_title_prefix p
+lay_request acts.System p = put_head (codes ".ds %o \"") p
 lay_request acts.TitleEnds p = end_title p
 lay_request acts.Section p = put_head (codes ".SH") p
 lay_request acts.Subsection p = put_head (codes ".SS") p

@@ -119,9 +119,8 @@ silent p = none (with_scan scans.Dropped p)
 -- the title's line goes out once: with the system, or where no title came before that, with the first section
 abbrev pub system : Page → Offered
 system p =
-    if p.place.titled || is_none p.title
-    then silent (record p { call = record p.call { line = macros.Silent } })
-    else offered p (left acts.Title)
+    if p.place.titled then silent (record p { call = record p.call { line = macros.Silent } }) else
+    if is_none p.title then offered p (two acts.System acts.Join) else offered p (left acts.Title)
 
 abbrev pub heads : Page → Page
 heads p =

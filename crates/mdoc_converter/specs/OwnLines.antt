@@ -125,9 +125,11 @@ abbrev pub names_system : Macro → Bool
 names_system macros.System = true
 names_system m = false
 
--- what stands for a system without a name
+-- what stands for a system without a name, and in the title's line for one that came before it
 abbrev pub other_system : Page → List ℕ
-other_system p = if names_system p.call.line && not p.call.some then codes "\\*()O" else []
+other_system p =
+    if not (names_system p.call.line) then codes "\\*(%o" else
+    if p.call.some then [] else codes "\\*()O"
 
 -- a section of which the macro file has no manual
 abbrev pub is_other : List ℕ → Bool
@@ -141,9 +143,10 @@ manual p =
     if bytes_eq p.chapter (codes "4") then codes " \"Device Drivers Manual\"" else
     if is_other p.chapter then codes " \"" ++ p.chapter ++ codes "\"" else []
 
--- the system stands on both sides of the footer
+-- the system stands on both sides of the footer; one that comes before the title is kept in a string
 abbrev pub end_title : Page → Laid
 end_title p =
+    if not p.place.titled then laid (fresh p) (other_system p ++ line_end p) else
     laid (with_lay (record p.lay { at = Start; joined = false; quiet = true }) p)
     (other_system p ++ codes "\"" ++ manual p ++ codes "\n.ds )9 \\*()4\n.nr IN 5n\n.ad l\n")
 

@@ -189,7 +189,9 @@ pub(crate) enum Act {
     Title,
     /// What was read of a long title becomes a string.
     TitlePrefix,
-    /// The title's line ends.
+    /// A string begins, which keeps the system.
+    System,
+    /// The line ends that the system stands in: the title's, or that of its string.
     TitleEnds,
     /// A section's heading begins.
     Section,

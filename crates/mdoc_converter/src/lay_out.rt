@@ -29,6 +29,7 @@ impl Page {
             Act::Numbered(n, width) => self.put_numbered(n, width, out),
             Act::Title => self.put_title(out),
             Act::TitlePrefix => self.put_title_prefix(out),
+            Act::System => self.put_head(b".ds %o \"", out),
             Act::TitleEnds => self.end_title(out),
             Act::Section => self.put_head(b".SH", out),
             Act::Subsection => self.put_head(b".SS", out),

@@ -160,13 +160,16 @@ impl Page {
         Seen::left(Act::Nothing)
     }
 
-    /// The system comes: the title's line goes out; where no title came yet, it goes out with the first section.
+    /// The system comes: the title's line goes out. Where no title came yet a string keeps the system for it.
     fn system(&mut self) -> Seen
         ensures { offered self.new result ≡ specs.system self.old }
     {
-        if self.place.titled || self.title.is_empty() {
+        if self.place.titled {
             self.call.line = Macro::Silent;
             return self.silent();
+        }
+        if self.title.is_empty() {
+            return Seen::two(Act::System, Act::Join);
         }
         Seen::left(Act::Title)
     }

@@ -242,15 +242,17 @@ impl Page {
         out.push(b'\n');
     }
 
-    /// What stands in the title's line for a system without a name.
+    /// What stands for a system without a name, and in the title's line for one that came before it.
     fn other_system(&self) -> &'static [u8]
         ensures value { result.now ≡ specs.other_system self.now }
         ensures few { length result.now ≤ 5 }
     {
-        if matches!(self.call.line, Macro::System) && !self.call.some {
-            b"\\*()O"
-        } else {
+        if !matches!(self.call.line, Macro::System) {
+            b"\\*(%o"
+        } else if self.call.some {
             b""
+        } else {
+            b"\\*()O"
         }
     }
 
@@ -271,7 +273,7 @@ impl Page {
         }
     }
 
-    /// The title's line ends. The system stands on both sides of the footer.
+    /// The title's line ends, or that of the string that keeps the system. It stands on both sides of the footer.
     pub(crate) fn end_title(&mut self, out: &mut SliceVec<'_, u8>)
         requires { length out.old.items + 96 ≤ out.old.capacity }
         ensures page { self.new ≡ (specs.end_title self.old).page }
@@ -280,6 +282,10 @@ impl Page {
         ensures room { out.new.capacity ≡ out.old.capacity }
     {
         out.extend(self.other_system());
+        if !self.place.titled {
+            self.freshen(out);
+            return;
+        }
         out.push(b'"');
         self.put_manual(out);
         out.extend(b"\n.ds )9 \\*()4\n.nr IN 5n\n.ad l\n");
