@@ -4,17 +4,18 @@ use Prim.Native.Char.{code}
 use Rattle.mdoc_converter.specs.declared.acts.Act.TheVariants as acts
 use Rattle.mdoc_converter.specs.declared.escaping.Escape.{Escape as Reached}
 use Rattle.mdoc_converter.specs.declared.macros.Macro.{Macro}
+use Rattle.mdoc_converter.specs.declared.macros.Macro.TheVariants as macros
 use Rattle.mdoc_converter.specs.declared.page.Inside.TheVariants as insides
 use Rattle.mdoc_converter.specs.declared.page.Page.{Page}
 use Rattle.mdoc_converter.specs.declared.page.Scan.{Scan}
 use Rattle.mdoc_converter.specs.declared.page.Scan.TheVariants as scans
-use Rattle.mdoc_converter.specs.Calls.{with_scan}
+use Rattle.mdoc_converter.specs.Calls.{has_cells, is_item, is_none, is_pending, leaves, tab, takes_no_more, with_scan}
 use Rattle.mdoc_converter.specs.Escaping.{escape_then}
 use Rattle.mdoc_converter.specs.Keeping.{after_name, comment, continued, ends_escape, ends_word, in_named, in_word_of, keep, keep_begun, keep_blank, keep_byte, keep_quote, keeping, turns, whole_for}
-use Rattle.mdoc_converter.specs.Options.{is_heading, reads_for}
+use Rattle.mdoc_converter.specs.Options.{is_column, is_heading, reads_for}
 use Rattle.mdoc_converter.specs.Reading.{State}
 use Rattle.mdoc_converter.specs.Scanning.{offer, offer_at}
-use Rattle.mdoc_converter.specs.Seeing.{Offered, offered, left, taken}
+use Rattle.mdoc_converter.specs.Seeing.{Offered, offered, left, two, taken, and_taken}
 use Rattle.mdoc_converter.specs.WrittenLines.{asks}
 use Rattle.mdoc_converter.proofs.AskedWords.{Asking, asking_as, Leading, Taking, left_leads, taken_takes, cell_takes, given_step, kept, kept_byte, asks_shown, asks_whole}
 use Rattle.mdoc_converter.proofs.ReadWords.{between_by}
@@ -95,6 +96,28 @@ word_heard m b s h at e f =
     heard_of m b s 1 scans.Word (omega arith) refl
     (kept_byte m b false s s.page scans.Word h (word_offered b s.page false at.scan_is e f) at)
 
+-- a tab ends no cell there
+tab_by : Bool → Page → Offered
+tab_by cells p =
+    if not cells then offered p (taken acts.Cell) else
+    if is_pending p then leaves p else
+    if not (is_none p.marks) then offered p (two acts.Closers acts.Marks) else
+    offered (takes_no_more p) (and_taken (two acts.Closers acts.Cell))
+
+tab_is : (p : Page) → tab p ≡ tab_by (has_cells p) p
+unfolding tab_by
+tab_is p = refl
+
+asks_no_item : (m : Macro) → asks m ≡ true → is_item m ≡ false
+asks_no_item macros.Item h = never h
+asks_no_item m h = refl
+
+tab_asking : (m : Macro) (p : Page) → asks m ≡ true → Asking m p scans.Between → tab p ≡ offered p (taken acts.Cell)
+unfolding tab_by
+tab_asking m p h at =
+    tab_is p ∙ ap (λ (k : Macro). tab_by (is_item k && is_column p.block.kind) p) at.line
+    ∙ ap (λ (t : Bool). tab_by (t && is_column p.block.kind) p) (asks_no_item m h)
+
 none_ends : (t u v : Bool) → t ≡ false → u ≡ false → v ≡ false → (t || u || v) ≡ false
 none_ends t u v e f g = cc
 
@@ -111,7 +134,7 @@ between_heard false true q m b s h at e f g i j =
     heard_of m b s 2 scans.Between (omega arith) refl
     (cell_takes m b s p scans.Between
     (between_offered m b p at ∙ ap (λ (t : Bool). between_by false t (b == code "\t") (b == code "\n") (b == code "\"") p) e
-    ∙ ap (λ (t : Bool). between_by false false t (b == code "\n") (b == code "\"") p) f) at)
+    ∙ ap (λ (t : Bool). between_by false false t (b == code "\n") (b == code "\"") p) f ∙ tab_asking m p h at) at)
 between_heard false false true m b s h at e f g i j =
     let p = s.page in
     heard_of m b s 2 scans.Quoted (omega arith) refl

@@ -7,14 +7,14 @@ use Rattle.mdoc_converter.specs.declared.page.Page.{Page}
 use Rattle.mdoc_converter.specs.declared.page.Scan.TheVariants as scans
 use Rattle.mdoc_converter.specs.declared.pending.Pending.{Pending}
 use Rattle.mdoc_converter.specs.declared.pending.Pending.TheVariants.{Nothing}
-use Rattle.mdoc_converter.specs.Calls.{with_scan}
+use Rattle.mdoc_converter.specs.Calls.{is_item, with_scan}
 use Rattle.mdoc_converter.specs.Blocks.{is_diagnosis}
 use Rattle.mdoc_converter.specs.Lines.{calls_none}
 use Rattle.mdoc_converter.specs.Macros.{macro_of}
 use Rattle.mdoc_converter.specs.Reading.{State, fed}
 use Rattle.mdoc_converter.specs.Saying.{parts_of, text_of, words_of}
 use Rattle.mdoc_converter.specs.WordLaws.{begins_block, has_room, opens_some, printed_lines, reads_at, LinesAreSaid}
-use Rattle.mdoc_converter.specs.WrittenLines.{Way, is_first, is_item, mute_named, none_named, way_headed, way_named, way_of, printed_as, begins_star, begins_text, each, is_plain, is_text, names_no_string, Word, are_written, after_each, Line, EmptyLine, CommentLine, TextLine, HeadingLine, MacroLine, AskingLine, asks_some, are_asking, begins_blank, written, Letter, heads_some, is_line, are_lines, written_line, written_lines, printed_line}
+use Rattle.mdoc_converter.specs.WrittenLines.{Way, is_first, mute_named, none_named, way_headed, way_named, way_of, printed_as, begins_star, begins_text, each, is_plain, is_text, names_no_string, Word, are_written, after_each, Line, EmptyLine, CommentLine, TextLine, HeadingLine, MacroLine, AskingLine, asks_some, are_asking, begins_blank, written, Letter, heads_some, is_line, are_lines, written_line, written_lines, printed_line}
 use Rattle.mdoc_converter.proofs.After.{after, after-pending, words-append, Fresh}
 use Rattle.mdoc_converter.proofs.AskingLines.{asking_said, line_names}
 use Rattle.mdoc_converter.proofs.Escapes.{and_left, and_right, both, line-text}

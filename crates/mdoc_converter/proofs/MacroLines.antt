@@ -13,7 +13,7 @@ use Rattle.mdoc_converter.specs.declared.page.Page.{Page}
 use Rattle.mdoc_converter.specs.declared.page.Scan.{Scan}
 use Rattle.mdoc_converter.specs.declared.page.Scan.TheVariants as scans
 use Rattle.mdoc_converter.specs.declared.pending.Pending.TheVariants.{Nothing}
-use Rattle.mdoc_converter.specs.Calls.{called_by, with_scan}
+use Rattle.mdoc_converter.specs.Calls.{called_by, is_item, with_scan}
 use Rattle.mdoc_converter.specs.Keeping.{ends_word, in_named, keep_byte}
 use Rattle.mdoc_converter.specs.LayingOut.{lay_out}
 use Rattle.mdoc_converter.specs.Blocks.{is_diagnosis, item}
@@ -24,7 +24,7 @@ use Rattle.mdoc_converter.specs.Saying.{parts_of, words_of}
 use Rattle.mdoc_converter.specs.Scanning.{offer, offer_at, name_begins}
 use Rattle.mdoc_converter.specs.Seeing.{Offered, offered, left, taken}
 use Rattle.mdoc_converter.specs.WordLaws.{reads_at}
-use Rattle.mdoc_converter.specs.WrittenLines.{Way, way_of, begins_star, each, names_no_string, Letter, Plain, Escape, are_letters, bytes_of, is_escaped, is_letter, is_plain, written, heads_words, is_item, is_mute, kept, prints_words, none_or, is_word, unless_called}
+use Rattle.mdoc_converter.specs.WrittenLines.{Way, way_of, begins_star, each, names_no_string, Letter, Plain, Escape, are_letters, bytes_of, is_escaped, is_letter, is_plain, written, heads_words, is_mute, kept, prints_words, none_or, is_word, unless_called}
 use Rattle.mdoc_converter.proofs.After.{after, next-state}
 use Rattle.mdoc_converter.proofs.Begins.{begins_apart, begins_out, item_out, muted}
 use Rattle.mdoc_converter.proofs.BlockEnds.{Begun, display_step, heads_step, list_step}

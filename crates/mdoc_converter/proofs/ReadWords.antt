@@ -8,7 +8,7 @@ use Rattle.mdoc_converter.specs.declared.escaping.Escape.{Escape as Reached}
 use Rattle.mdoc_converter.specs.declared.page.Page.{Page}
 use Rattle.mdoc_converter.specs.declared.page.Scan.{Scan}
 use Rattle.mdoc_converter.specs.declared.page.Scan.TheVariants as scans
-use Rattle.mdoc_converter.specs.Calls.{is_none, with_scan}
+use Rattle.mdoc_converter.specs.Calls.{is_none, tab, with_scan}
 use Rattle.mdoc_converter.specs.Keeping.{ends_in_hyphen, ends_word, in_named, in_word_of, is_whole, within_escape, word_begins}
 use Rattle.mdoc_converter.specs.LayingOut.{lay_out}
 use Rattle.mdoc_converter.specs.Reading.{State, said}
@@ -336,10 +336,10 @@ letters_after (l ∷ ls) reached following head quoted whole s bs marks all r h 
 -- ---- a word begins
 
 unfoldable pub between_by : Bool → Bool → Bool → Bool → Bool → Page → Offered
-between_by comment blank tab newline quote p =
+between_by comment blank tabbed newline quote p =
     if comment then offered (with_scan scans.Dropped p) (left acts.Nothing) else
     if blank then offered p (taken acts.Nothing) else
-    if tab then offered p (taken acts.Cell) else
+    if tabbed then tab p else
     if newline then offered (with_scan scans.Ends p) (left acts.Nothing) else
     if quote then word_begins scans.Quoted (taken acts.Nothing) p else word_begins scans.Word (left acts.Nothing) p
 

@@ -8,15 +8,18 @@ use Rattle.mdoc_converter.specs.declared.macros.Font.TheVariants.{Roman}
 use Rattle.mdoc_converter.specs.declared.macros.Macro.{Macro}
 use Rattle.mdoc_converter.specs.declared.macros.Macro.TheVariants as macros
 use Rattle.mdoc_converter.specs.declared.macros.Pair.TheVariants as pairs
+use Rattle.mdoc_converter.specs.declared.page.Lay.{Lay}
 use Rattle.mdoc_converter.specs.declared.page.Page.{Page}
 use Rattle.mdoc_converter.specs.declared.page.Scan.TheVariants as scans
 use Rattle.mdoc_converter.specs.declared.seen.Seen.{Seen}
-use Rattle.mdoc_converter.specs.Calls.{called_by, called, calls, call, encloses_address, is_pending, is_enclosure_pending, is_flag, is_none, joining, leaves, opens_address, seen_with, with_scan}
+use Rattle.mdoc_converter.specs.Calls.{called_by, called, calls, call, encloses_address, ends_cell, is_pending, is_enclosure_pending, is_flag, is_none, joining, leaves, opens_address, seen_with, taking, with_scan}
+use Rattle.mdoc_converter.specs.Laying.{put_closing, was_put, with_lay}
+use Rattle.mdoc_converter.specs.LayingOut.{lay_out}
 use Rattle.mdoc_converter.specs.Macros.{is_callable}
 use Rattle.mdoc_converter.specs.Options.{is_heading, reads_for}
-use Rattle.mdoc_converter.specs.Reading.{State}
+use Rattle.mdoc_converter.specs.Reading.{State, said}
 use Rattle.mdoc_converter.specs.Scanning.{offer}
-use Rattle.mdoc_converter.specs.Seeing.{Offered, offered, left, three}
+use Rattle.mdoc_converter.specs.Seeing.{Offered, offered, left, two, three}
 use Rattle.mdoc_converter.specs.Texts.{closer}
 use Rattle.mdoc_converter.specs.Taking.{argument, is_bar, is_opening, some_taken, taken_word}
 use Rattle.mdoc_converter.specs.WrittenLines.{asks, heads_words, none_or, prints_otherwise, prints_words, said_of, unless_called, Way, Usual, way_after, way_of}
@@ -24,7 +27,8 @@ use Rattle.mdoc_converter.specs.Words.{closing_mark, marked_or, parsed, read_or_
 use Rattle.mdoc_converter.proofs.Escapes.{and_left, and_right, is_not}
 use Rattle.mdoc_converter.proofs.Given.{Whole, whole_of, whole_after, whole_within, given_offered}
 use Rattle.mdoc_converter.proofs.MarksHeld.{the_mark, one_at_most, two_at_most, mark_whole}
-use Rattle.mdoc_converter.proofs.Outcomes.{is_quiet, of_word, never, Lined, takes_plain, Keeps, Out, out, out_when, same_page, leaves_out}
+use Rattle.mdoc_converter.proofs.Offering.{with_page, leads_by}
+use Rattle.mdoc_converter.proofs.Outcomes.{is_quiet, of_word, never, Lays, Lined, quiet-page, takes_plain, Keeps, Out, out, out_when, same_page, leaves_out}
 use Rattle.mdoc_converter.proofs.Stepping.{At, Head, In, Left, Manner, plainly, out_step, no_more_step, left_step, leaves_step, marks_step}
 use Rattle.mdoc_converter.proofs.Taken.{called_out, taken_out, said_in}
 use Rattle.mdoc_converter.proofs.Ways.{pending_usual, opened_usual, said_bar, said_one, said_opening}
@@ -142,7 +146,14 @@ call_is m p = refl
 
 -- the page that a macro is called on
 calling : Macro → Page → Page
-calling m p = record p { scan = scans.Between; call = record p.call { taker = m; first = false; some = false; listed = false } }
+calling m p = taking m p
+
+calls_by : Bool → Macro → Page → Offered
+calls_by ends m p = if ends then offered (calling m p) (two acts.Closers acts.Cell) else called m (calling m p)
+
+calls_is : (m : Macro) (p : Page) → calls m p ≡ calls_by (ends_cell m p) m p
+unfolding calls_by calling
+calls_is m p = refl
 
 -- how the words after a word are taken
 abbrev pub after_head : Head → Option Macro → Head
@@ -175,14 +186,66 @@ called_nothing head b s k all w = record {
   total = w.total;
 }
 
-pub calls_whole : (head : Manner) (following : Head) (m : Macro) (b : ℕ) (s : State) (word : List ℕ) → In false head s (scans.Given false) word []
-    → head.line ≡ following.line → way_of m ≡ following.way → takes_plain m ≡ true → offer b s.page ≡ calls m s.page → Whole following b s 1 []
+-- ---- what begins a cell ends what the one before opened
+
+closing_lays : (cs : List ℕ) (p : Page) → Lays p (put_closing cs p).page
+closing_lays [] p = (p.lay, refl)
+closing_lays (c ∷ cs) p = let l = closing_lays cs p in (_, ap was_put l.1)
+
+-- its page then
+record Celled (q : Page) : Type 0 where
+  lay : Lay
+  is : (said (two acts.Closers acts.Cell) q).page ≡ with_lay lay (record q { closers = [] })
+
+celled : (q : Page) → Celled q
+unfolding said lay_out is_quiet
+celled q =
+    let p = record q { closers = [] } in
+    let l = closing_lays q.closers p in
+    let c = quiet-page acts.Cell (put_closing q.closers p).page refl in
+    record { lay = c.0; is = c.1 ∙ ap (with_lay c.0) l.1 }
+
+cell_whole : (head : Manner) (following : Head) (m : Macro) (b : ℕ) (s : State) (word : List ℕ) → In false head s (scans.Given false) word []
+    → head.line ≡ following.line → way_of m ≡ following.way → takes_plain m ≡ true → offer b s.page ≡ offered (calling m s.page) (two acts.Closers acts.Cell)
+    → Whole following b s 1 []
 unfolding calling
-calls_whole head following m b s word at line way f e =
+cell_whole head following m b s word at line way f e =
+    let q = calling m s.page in
+    let c = celled q in
+    let r = with_lay c.lay (record q { closers = [] }) in
     whole_of following b s 1 1 [] s.page.word [] [] one_at_most
-    (out_step following b s (calls m s.page) (calling m s.page) [] [] e (called_out m (calling m s.page) f)
+    (record {
+      next = with_page r s;
+      leads = leads_by b s q r acts.Closers acts.Cell acts.Nothing [] e c.is refl;
+      at = record {
+        scan_is = refl;
+        word_is = refl;
+        marks_are = at.marks_are;
+        few = omega arith;
+        going = at.going;
+        comment = at.comment;
+        line = at.line ∙ line;
+        fits = f;
+        way = way;
+        free = λ h. refl;
+      };
+    })
+    refl
+
+called_in : (t : Bool) (head : Manner) (following : Head) (m : Macro) (b : ℕ) (s : State) (word : List ℕ) → In false head s (scans.Given false) word []
+    → head.line ≡ following.line → way_of m ≡ following.way → takes_plain m ≡ true → offer b s.page ≡ calls_by t m s.page → Whole following b s 1 []
+unfolding calling calls_by
+called_in true head following m b s word at line way f e = cell_whole head following m b s word at line way f e
+called_in false head following m b s word at line way f e =
+    whole_of following b s 1 1 [] s.page.word [] [] one_at_most
+    (out_step following b s (called m (calling m s.page)) (calling m s.page) [] [] e (called_out m (calling m s.page) f)
     at.marks_are at.few at.going at.comment (at.line ∙ line) way (λ h. refl))
     refl
+
+pub calls_whole : (head : Manner) (following : Head) (m : Macro) (b : ℕ) (s : State) (word : List ℕ) → In false head s (scans.Given false) word []
+    → head.line ≡ following.line → way_of m ≡ following.way → takes_plain m ≡ true → offer b s.page ≡ calls m s.page → Whole following b s 1 []
+calls_whole head following m b s word at line way f e =
+    called_in (ends_cell m s.page) head following m b s word at line way f (e ∙ calls_is m s.page)
 
 -- what opens an address of mail
 address_few : (cs : List ℕ) (c : ℕ) → length cs ≤ 8 → length (take (length cs - 1) cs ++ c ∷ []) ≤ 8

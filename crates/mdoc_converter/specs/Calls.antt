@@ -20,7 +20,8 @@ use Rattle.mdoc_converter.specs.declared.page.Section.{Section}
 use Rattle.mdoc_converter.specs.declared.page.Section.TheVariants.{Synopsis}
 use Rattle.mdoc_converter.specs.declared.seen.Seen.{Seen}
 use Rattle.mdoc_converter.specs.Macros.{macro_of, is_callable}
-use Rattle.mdoc_converter.specs.Seeing.{Offered, offered, left, two}
+use Rattle.mdoc_converter.specs.Options.{is_column}
+use Rattle.mdoc_converter.specs.Seeing.{Offered, offered, left, two, taken, and_taken}
 use Rattle.mdoc_converter.specs.Texts.{closer}
 
 -- ---- what a word is
@@ -181,10 +182,10 @@ called macros.FunctionCloses p = function_closes p
 called macros.Cell p = offered p (left acts.Cell)
 called m p = offered p (left acts.Nothing)
 
-abbrev pub calls : Macro → Page → Offered
-calls m p =
-    called m
-    (record p {
+-- a macro takes words
+abbrev pub taking : Macro → Page → Page
+taking m p =
+    record p {
       scan = scans.Between;
       call = record p.call {
         taker = m;
@@ -192,7 +193,35 @@ calls m p =
         some = false;
         listed = false;
       };
-    })
+    }
+
+abbrev pub is_cell : Macro → Bool
+is_cell macros.Cell = true
+is_cell m = false
+
+-- `Ta` in a list of columns: what its cell opened ends before it
+abbrev pub ends_cell : Macro → Page → Bool
+ends_cell m p = is_cell m && is_column p.block.kind
+
+abbrev pub calls : Macro → Page → Offered
+calls m p =
+    if ends_cell m p then offered (taking m p) (two acts.Closers acts.Cell) else called m (taking m p)
+
+abbrev pub is_item : Macro → Bool
+is_item macros.Item = true
+is_item m = false
+
+-- an item of columns, whose cells tabs end too
+abbrev pub has_cells : Page → Bool
+has_cells p = is_item p.call.line && is_column p.block.kind
+
+-- a tab between words: in such an item it ends all that its cell opened, and what its macro takes
+abbrev pub tab : Page → Offered
+tab p =
+    if not (has_cells p) then offered p (taken acts.Cell) else
+    if is_pending p then leaves p else
+    if not (is_none p.marks) then offered p (two acts.Closers acts.Marks) else
+    offered (takes_no_more p) (and_taken (two acts.Closers acts.Cell))
 
 abbrev pub is_flag : Macro → Bool
 is_flag macros.Flag = true

@@ -12,7 +12,7 @@ use Rattle.mdoc_converter.specs.declared.page.Page.{Page}
 use Rattle.mdoc_converter.specs.declared.libraries.TheConstants.{LIBRARIES}
 use Rattle.mdoc_converter.specs.declared.names.TheConstants.{STANDARDS, SYSTEMS}
 use Rattle.mdoc_converter.specs.Lookup.{before_nul, named_in}
-use Rattle.mdoc_converter.specs.Texts.{font_begin, font_end}
+use Rattle.mdoc_converter.specs.Texts.{closing, font_begin, font_end}
 
 -- a page then, and what goes out
 pub record Laid : Type 0 where
@@ -167,6 +167,15 @@ abbrev pub put_version : Option (List ℕ) → Page → Laid
 put_version None p = then_laid (put (is_joined p) (codes "AT&T UNIX ") p) (λ q. put_word true Roman q)
 put_version (Some text) p = put (is_joined p) (before_nul text) p
 
+-- what closes these enclosures, the last of them first
+abbrev pub put_closing : List ℕ → Page → Laid
+put_closing [] p = laid p []
+put_closing (c ∷ cs) p = then_laid (put_closing cs p) (λ q. put true (closing c) q)
+
+-- what closes those of the line: they are open no more
+abbrev pub put_closers : Page → Laid
+put_closers p = put_closing p.closers (record p { closers = [] })
+
 -- a standard that no table has prints nothing
 abbrev pub put_standard : Option (List ℕ) → Page → Laid
 put_standard None p = laid p []
@@ -220,6 +229,7 @@ lay_word acts.Own p = put_name p.name p
 lay_word acts.Held p = put_held p
 lay_word (acts.LastHeld many) p = put_last_held many p
 lay_word acts.Marks p = put_marks p
+lay_word acts.Closers p = put_closers p
 lay_word acts.Standard p = put_standard (standard_named p.word) p
 lay_word acts.Library p = put_library (library_named p.word) p
 lay_word acts.Att p = put_version (version_named p.word) p

@@ -18,6 +18,7 @@ use Rattle.mdoc_converter.specs.declared.page.Dots.TheVariants as dots
 use Rattle.mdoc_converter.specs.declared.page.Prefix.{Prefix}
 use Rattle.mdoc_converter.specs.declared.page.Prefix.TheVariants as prefixes
 use Rattle.mdoc_converter.specs.declared.seen.Seen.{Seen}
+use Rattle.mdoc_converter.specs.Calls.{tab}
 use Rattle.mdoc_converter.specs.Columns.{has_rows}
 use Rattle.mdoc_converter.specs.Definitions.{in_definition}
 use Rattle.mdoc_converter.specs.Escaping.{escape_then}
@@ -123,7 +124,7 @@ abbrev pub between : ℕ → Page → Offered
 between b p =
     if p.call.comment then turns scans.Dropped (left acts.Nothing) p else
     if b == code " " then offered p (taken acts.Nothing) else
-    if b == code "\t" then offered p (taken acts.Cell) else
+    if b == code "\t" then tab p else
     if b == code "\n" then turns scans.Ends (left acts.Nothing) p else
     if b == code "\"" then word_begins scans.Quoted (taken acts.Nothing) p else
     word_begins scans.Word (left acts.Nothing) p

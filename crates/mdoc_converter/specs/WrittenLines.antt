@@ -8,7 +8,7 @@ use Rattle.mdoc_converter.specs.declared.macros.Macro.{Macro}
 use Rattle.mdoc_converter.specs.declared.macros.Macro.TheVariants as macros
 use Rattle.mdoc_converter.specs.declared.page.Block.{Block}
 use Rattle.mdoc_converter.specs.Blocks.{is_diagnosis}
-use Rattle.mdoc_converter.specs.Calls.{called_by}
+use Rattle.mdoc_converter.specs.Calls.{called_by, is_item}
 use Rattle.mdoc_converter.specs.Columns.{has_rows}
 use Rattle.mdoc_converter.specs.Escaping.{escape_then}
 use Rattle.mdoc_converter.specs.Keeping.{ends_escape, ends_word, is_title}
@@ -206,10 +206,6 @@ pub data Word : Type 0 where
 abbrev pub none_or : (Macro → Bool) → Option Macro → Bool
 none_or test None = true
 none_or test (Some m) = test m
-
-abbrev pub is_item : Macro → Bool
-is_item macros.Item = true
-is_item m = false
 
 -- the words of this macro's line call none: so do those of an item's head in a list of `-diag`
 abbrev pub is_mute : Block → Macro → Bool

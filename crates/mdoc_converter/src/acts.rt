@@ -149,6 +149,8 @@ pub(crate) enum Act {
     Close(Text),
     /// The marks that were held back.
     Marks,
+    /// What closes the enclosures that the line opened.
+    Closers,
     /// The next word joins this one.
     Join,
     /// It does not.

@@ -5,7 +5,7 @@ ghost use Rattle.mdoc_converter.specs.Calls as specs;
 
 use super::acts::{Act, Request, Text};
 use super::macros::{Font, Macro, Pair, macro_of};
-use super::page::{Last, Page, Parameters, Scan, Section};
+use super::page::{Kind, Last, Page, Parameters, Scan, Section};
 use super::seen::Seen;
 use super::texts::closer;
 use nr_units::Name;
@@ -201,7 +201,7 @@ impl Page {
         Seen::two(Act::Text(Text::Opening(Pair::Signs)), Act::Join)
     }
 
-    /// A macro takes the words that follow, or stands for text.
+    /// A macro takes the words that follow, or stands for text. What begins a cell ends what the one before opened.
     fn calls(&mut self, called: Macro) -> Seen
         ensures { offered self.new result ≡ specs.calls called self.old }
     {
@@ -210,7 +210,34 @@ impl Page {
         self.call.first = false;
         self.call.some = false;
         self.call.listed = false;
+        if matches!(called, Macro::Cell) && matches!(self.block.kind, Kind::Column) {
+            return Seen::two(Act::Closers, Act::Cell);
+        }
         self.called(called)
+    }
+
+    /// Whether tabs end cells: those of an item of columns do.
+    fn has_cells(&self) -> bool
+        ensures { result ≡ specs.has_cells self.now }
+    {
+        matches!(self.call.line, Macro::Item) && matches!(self.block.kind, Kind::Column)
+    }
+
+    /// A tab between words: in an item of columns it ends all that its cell opened.
+    pub(crate) fn tab(&mut self) -> Seen
+        ensures { offered self.new result ≡ specs.tab self.old }
+    {
+        if !self.has_cells() {
+            return Seen::taken(Act::Cell);
+        }
+        if self.is_pending() {
+            return self.leaves();
+        }
+        if !self.marks.is_empty() {
+            return Seen::two(Act::Closers, Act::Marks);
+        }
+        self.takes_no_more();
+        Seen::two(Act::Closers, Act::Cell).and_taken()
     }
 
     /// What a macro says before its words.

@@ -1,5 +1,5 @@
 //! Parts are laid out as text.
-ghost use Rattle.std.specs.Prelude.{◌≡◌, ◌+◌, ◌≤◌, ◌++◌, length, is_some};
+ghost use Rattle.std.specs.Prelude.{◌≡◌, ◌+◌, ◌*◌, ◌≤◌, ◌++◌, length, is_some};
 ghost use Rattle.mdoc_converter.specs.Laying as specs;
 
 use super::acts::Act;
@@ -8,7 +8,7 @@ use super::lookup::{before_nul, named_in};
 use super::macros::Font;
 use super::names::{STANDARDS, SYSTEMS};
 use super::page::{At, Page};
-use super::texts::{font_begin, font_end};
+use super::texts::{closing, font_begin, font_end};
 use nr_units::Name;
 use nr_vectors::slice_vec::SliceVec;
 
@@ -335,6 +335,36 @@ impl Page {
         self.marks = Name::new();
     }
 
+    /// What closes these enclosures, the last of them first.
+    fn put_closing(&mut self, closers: &[u8], out: &mut SliceVec<'_, u8>)
+        requires { length out.old.items + 7 * length closers.now ≤ out.old.capacity }
+        ensures page { self.new ≡ (specs.put_closing closers.now self.old).page }
+        ensures items { out.new.items ≡ out.old.items ++ (specs.put_closing closers.now self.old).bytes }
+        ensures few { length out.new.items ≤ length out.old.items + 7 * length closers.now }
+        ensures room { out.new.capacity ≡ out.old.capacity }
+    {
+        match closers {
+            [first, rest @ ..] => {
+                self.put_closing(rest, out);
+                self.put(true, closing(*first), out);
+            }
+            [] => {}
+        }
+    }
+
+    /// What closes the enclosures that the line opened.
+    fn put_closers(&mut self, out: &mut SliceVec<'_, u8>)
+        requires { length out.old.items + 256 ≤ out.old.capacity }
+        ensures page { self.new ≡ (specs.put_closers self.old).page }
+        ensures items { out.new.items ≡ out.old.items ++ (specs.put_closers self.old).bytes }
+        ensures few { length out.new.items ≤ length out.old.items + 256 }
+        ensures room { out.new.capacity ≡ out.old.capacity }
+    {
+        let closers = self.closers;
+        self.closers = Name::new();
+        self.put_closing(closers.as_bytes(), out);
+    }
+
     /// The version of AT&T UNIX that the word names, or the word after that name.
     fn put_version(&mut self, text: Option<[u8; 78]>, out: &mut SliceVec<'_, u8>)
         requires { length out.old.items + 96 ≤ out.old.capacity }
@@ -446,6 +476,7 @@ impl Page {
             Act::Held => self.put_held(out),
             Act::LastHeld(many) => self.put_last_held(many, out),
             Act::Marks => self.put_marks(out),
+            Act::Closers => self.put_closers(out),
             Act::Standard => self.put_standard(standard_named(self.word), out),
             Act::Library => self.put_library(library_named(self.word), out),
             Act::Att => self.put_version(version_named(self.word), out),

@@ -275,7 +275,7 @@ impl Page {
         }
         match byte {
             b' ' => Seen::taken(Act::Nothing),
-            b'\t' => Seen::taken(Act::Cell),
+            b'\t' => self.tab(),
             b'\n' => self.turns(Scan::Ends, Seen::left(Act::Nothing)),
             b'"' => self.word_begins(Scan::Quoted, Seen::taken(Act::Nothing)),
             _ => self.word_begins(Scan::Word, Seen::left(Act::Nothing)),

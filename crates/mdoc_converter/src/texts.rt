@@ -64,7 +64,7 @@ pub(crate) fn closer(pair: Pair) -> u8
 }
 
 /// Its bytes.
-fn closing(closer: u8) -> &'static [u8]
+pub(crate) fn closing(closer: u8) -> &'static [u8]
     ensures value { result.now ≡ specs.closing closer }
     ensures few { length result.now ≤ 4 }
 {
