@@ -8,7 +8,7 @@ use Rattle.mdoc_command.specs.Watching.{all_heard, finished, first_page}
 use Rattle.mdoc_command.specs.declared.complaints.Parts.{Parts}
 use Rattle.mdoc_command.specs.declared.telling.Complaint.{Complaint}
 use Rattle.mdoc_command.specs.declared.telling.Kind.{Kind}
-use Rattle.mdoc_command.specs.declared.telling.Kind.TheVariants.{Unknown, NotOpen, TooMany, Nested, Broken, NotEnded, Outside, NoKind, BadWord, NoSection, Empty, Words, Late, OpenQuote}
+use Rattle.mdoc_command.specs.declared.telling.Kind.TheVariants.{Unknown, NotOpen, TooMany, Nested, Broken, NotEnded, Outside, NoKind, BadWord, NoSection, Empty, Words, Late, OpenQuote, Again, Excess, NoName, Nameless}
 
 -- what is wrong, and the name of a macro
 abbrev pub about : List ℕ → List ℕ → List ℕ
@@ -58,6 +58,10 @@ kind_text (Empty name) = about (codes "empty macro: ") name
 kind_text (Words name) = about (codes "arguments that are not taken: ") name
 kind_text (Late name) = about (late_text name) name
 kind_text (OpenQuote name) = about (codes "unterminated quoted argument: ") name
+kind_text (Again name) = about (codes "duplicate prologue macro: ") name
+kind_text (Excess name word) = about_word (codes "excess arguments: ") name word
+kind_text (NoName name) = about (codes "missing manual name: ") name
+kind_text (Nameless name) = about (codes "NAME section without Nm before ") name
 
 -- as it is written, up to the end of the line
 abbrev pub rest_text : List ℕ → List ℕ → List ℕ → List ℕ → List ℕ

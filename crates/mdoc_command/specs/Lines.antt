@@ -9,7 +9,7 @@ use Rattle.mdoc_command.specs.declared.lines.Line.{Line}
 use Rattle.mdoc_command.specs.declared.lines.Line.TheVariants as lines
 use Rattle.mdoc_command.specs.declared.lines.Whole.{Whole}
 use Rattle.mdoc_command.specs.declared.lines.Whole.TheVariants as wholes
-use Rattle.mdoc_command.specs.Names.{defines, is_parsed, is_request}
+use Rattle.mdoc_command.specs.Names.{defines, hides, is_parsed, is_request}
 
 -- as much of a name is kept
 abbrev pub name_capacity : ℕ
@@ -26,6 +26,7 @@ first =
       cut = false;
       calls = false;
       awake = false;
+      hidden = false;
     }
 
 abbrev pub with_line : Line → Half → Half
@@ -81,9 +82,10 @@ grows b h =
 -- the name of a request or a macro is whole
 abbrev pub after_name : ℕ → Half → Half × Whole
 after_name b h =
-    if defines h.name then (with_line (body_after b) h, wholes.Nothing) else
-    if is_request h.name then (with_line (rest_after b) h, wholes.Nothing) else
-    (record h { line = words_after b; calls = is_parsed h.name }, wholes.Macro)
+    let g = record h { hidden = h.hidden || hides h.name } in
+    if defines h.name then (with_line (body_after b) g, wholes.Nothing) else
+    if is_request h.name then (with_line (rest_after b) g, wholes.Nothing) else
+    (record g { line = words_after b; calls = is_parsed h.name }, wholes.Macro)
 
 abbrev pub is_date : Half → Bool
 is_date h = h.dotted && nat_lt h.looked 64 && bytes_eq h.name (codes "Dd")

@@ -13,6 +13,12 @@ is_request (b ∷ bs) = not (nat_le (code "A") b && nat_le b (code "Z")) && not 
 abbrev pub defines : List ℕ → Bool
 defines name = bytes_eq name (codes "de") || bytes_eq name (codes "am") || bytes_eq name (codes "ig")
 
+-- a request whose lines or words are not looked at, and may name the page
+abbrev pub hides : List ℕ → Bool
+hides name =
+    defines name || bytes_eq name (codes "if") || bytes_eq name (codes "ie") || bytes_eq name (codes "el")
+    || bytes_eq name (codes "so")
+
 abbrev pub is_in : List (List ℕ) → ℕ → ℕ → Bool
 is_in [] a b = false
 is_in (name ∷ names) a b =
@@ -82,6 +88,15 @@ abbrev pub is_list_kind : List ℕ → Bool
 is_list_kind word =
     is_one_of (codes "-bullet" ∷ codes "-dash" ∷ codes "-hyphen" ∷ codes "-enum" ∷ codes "-tag" ∷ codes "-hang"
     ∷ codes "-inset" ∷ codes "-ohang" ∷ codes "-diag" ∷ codes "-item" ∷ codes "-column" ∷ []) word
+
+-- options of a list or a display: one that has a word of its own, and one that has none and is no kind
+abbrev pub has_value : List ℕ → List ℕ → Bool
+has_value name word =
+    bytes_eq word (codes "-offset") || (bytes_eq name (codes "Bl") && bytes_eq word (codes "-width"))
+    || (bytes_eq name (codes "Bd") && bytes_eq word (codes "-file"))
+
+abbrev pub is_flag : List ℕ → List ℕ → Bool
+is_flag name word = bytes_eq word (codes "-compact") || (bytes_eq name (codes "Bl") && bytes_eq word (codes "-nested"))
 
 abbrev pub is_display_kind : List ℕ → Bool
 is_display_kind word =

@@ -16,9 +16,11 @@ use Rattle.mdoc_command.specs.declared.blocks.OpenBlock.{OpenBlock}
 use Rattle.mdoc_command.specs.declared.telling.Kind.{Kind}
 use Rattle.mdoc_command.specs.declared.telling.Kind.TheVariants as kinds
 use Rattle.mdoc_command.specs.Lines as lines
-use Rattle.mdoc_command.specs.Names.{opener_of, opens}
+use Rattle.mdoc_command.specs.Names.{is_mark, opener_of, opens}
+use Rattle.mdoc_command.specs.Naming as naming
+use Rattle.mdoc_command.specs.declared.naming.Naming.{Naming}
 use Rattle.mdoc_command.specs.declared.wording.Wording.{Wording}
-use Rattle.mdoc_command.specs.Wording.{fault, line_of, more, no_line, taking}
+use Rattle.mdoc_command.specs.Wording.{fault, line_of, names_section, no_line, taking, taking_other}
 use Rattle.filters_complaints.specs.Complaints.{none_reported}
 use Rattle.mdoc_command.specs.Telling as telling
 use Rattle.mdoc_command.specs.Telling.{AllReported}
@@ -28,7 +30,10 @@ pub record Page : Type 0 where
   pub blocks : Items OpenBlock
   pub reported : AllReported
   pub wording : Wording
+  pub naming : Naming
   pub headed : Bool
+  pub titled : Bool
+  pub system : Bool
 
 abbrev pub first_page : ℕ → ℕ → Page
 first_page blocks complaints = record {
@@ -36,7 +41,10 @@ first_page blocks complaints = record {
   blocks = record { items = []; capacity = blocks };
   reported = none_reported complaints;
   wording = no_line;
+  naming = naming.first;
   headed = false;
+  titled = false;
+  system = false;
 }
 
 abbrev pub reported : Kind → Page → Page
@@ -103,21 +111,66 @@ item_at (Some place) p = broken place p
 abbrev pub item : Page → Page
 item p = item_at (place_of (codes "Bl") p.blocks.items) p
 
+-- ---- the page's name
+
+abbrev pub with_naming : Naming → Page → Page
+with_naming n p = record p { naming = n }
+
+-- `.Nm` without a word stands for the name, which it had before, or may have had where lines are not looked at
+abbrev pub name_ended : Page → Page
+name_ended p =
+    let q = if p.naming.waits && not p.naming.known && not p.half.hidden then reported (kinds.NoName (codes "Nm")) p else p in
+    with_naming (record q.naming { waits = false }) q
+
+-- a word is that of `.Nm`, or calls a macro
+abbrev pub name_called : Page → Page
+name_called p =
+    let q = name_ended p in with_naming (record q.naming { waits = bytes_eq p.half.name (codes "Nm") }) q
+
+abbrev pub name_worded : Page → Page
+name_worded p =
+    if length p.half.name == 0 || is_mark p.half.name then p else
+    if p.half.calls && is_some (macro_of p.half.name) then name_called p
+    else with_naming (naming.taking p.naming) p
+
+-- a section NAME ends, or its description comes, and no line of `.Nm` came in it
+abbrev pub naming_ended : Page → Page
+naming_ended p =
+    let q = with_naming (record p.naming { section = 0 }) p in
+    if nat_lt 0 p.naming.section && not p.half.hidden
+    then record q { reported = telling.reported (kinds.Nameless (codes "Nd")) p.naming.section q.reported } else q
+
+-- a macro begins a line that may name the page, or end the place of its name
+abbrev pub named : Page → Page
+named p =
+    if bytes_eq p.half.name (codes "Nm") then with_naming (record p.naming { waits = true; section = 0 }) p else
+    if bytes_eq p.half.name (codes "Nd") || bytes_eq p.half.name (codes "Sh") then naming_ended p else p
+
 -- ---- a macro begins a line
 
 -- the page's title
 abbrev pub is_prologue : List ℕ → Bool
 is_prologue name = bytes_eq name (codes "Dd") || bytes_eq name (codes "Dt") || bytes_eq name (codes "Os")
 
+-- A macro of the title that came before is told: of `.Dd` one did, as it tells that the page is one of mdoc.
+abbrev pub title_if : Bool → Page → Page
+title_if came p = if came then reported (kinds.Again p.half.name) p else p
+
+abbrev pub titles : Page → Page
+titles p =
+    if bytes_eq p.half.name (codes "Dt") then title_if p.titled (record p { titled = true }) else
+    if bytes_eq p.half.name (codes "Os") then title_if p.system (record p { system = true }) else title_if true p
+
 abbrev pub begun : Page → Page
 begun p =
     if bytes_eq p.half.name (codes "Sh") || bytes_eq p.half.name (codes "Ss")
     then broken (length p.blocks.items) (record p { headed = true }) else
     if p.headed && is_prologue p.half.name then reported (kinds.Late p.half.name) p else
+    if is_prologue p.half.name then titles p else
     if bytes_eq p.half.name (codes "It") then item p else called p
 
 abbrev pub known : Page → Page
-known p = begun (record p { wording = line_of p.half.name p.half.number })
+known p = begun (named (record p { wording = line_of p.half.name p.half.number }))
 
 -- its name is no word
 unfoldable pub judged : Page → Page
@@ -140,7 +193,8 @@ columns_if t p = if t then with_columns p else p
 -- a word calls a macro where words may, and is counted
 unfoldable pub worded : Page → Page
 worded p =
-    let q = if p.half.calls then called p else p in
+    let o = name_worded p in
+    let q = if p.half.calls then called o else o in
     let columns = bytes_eq p.half.name (codes "-column") && bytes_eq q.wording.name (codes "Bl") in
     let r = columns_if columns q in
     record r { wording = taking p.half.name r.wording }
@@ -164,11 +218,16 @@ abbrev pub reported_of_line : Option Kind → Page → Page
 reported_of_line None p = p
 reported_of_line (Some kind) p = record p { reported = telling.reported kind p.wording.line p.reported }
 
+-- a line of `.Sh NAME` begins the section of the page's name
+abbrev pub section_begun : Page → Page
+section_begun p =
+    if names_section p.wording then with_naming (record p.naming { section = p.wording.line }) p else p
+
 -- the line ends: what is wrong with its words is reported
 abbrev pub line_ended : Line → Page → Page
 line_ended before p =
     let wrong = if is_quoted before then Some (kinds.OpenQuote p.wording.name) else fault p.wording in
-    reported_of_line wrong (record p { wording = record p.wording { reading = false } })
+    reported_of_line wrong (section_begun (name_ended (record p { wording = record p.wording { reading = false } })))
 
 abbrev pub is_start : Line → Bool
 is_start lines_of.Start = true
@@ -176,7 +235,8 @@ is_start line = false
 
 abbrev pub counted_other : Line → Page → Page
 counted_other before p =
-    if begins_other before p.half.line then record p { wording = more p.wording } else p
+    if begins_other before p.half.line
+    then record p { wording = taking_other p.wording; naming = naming.taking p.naming } else p
 
 -- the line of a macro goes on, or ends
 unfoldable pub gone_on : Line → Page → Page
@@ -210,7 +270,9 @@ all_heard (b ∷ bs) p = all_heard bs (heard b p)
 
 -- the page ends: what is open is reported at the lines where it was opened
 abbrev pub finished : Page → Page
-finished p = record p {
-  blocks = record p.blocks { items = [] };
-  reported = telling.not_ended p.blocks.items p.reported;
-}
+finished p =
+    let q = naming_ended p in
+    record q {
+      blocks = record q.blocks { items = [] };
+      reported = telling.not_ended q.blocks.items q.reported;
+    }

@@ -142,6 +142,10 @@ fn parts_of(kind: Kind) -> Parts
         Kind::Words(name) => about(b"arguments that are not taken: ", name),
         Kind::Late(name) => about(late(name), name),
         Kind::OpenQuote(name) => about(b"unterminated quoted argument: ", name),
+        Kind::Again(name) => about(b"duplicate prologue macro: ", name),
+        Kind::Excess(name, word) => about_word(b"excess arguments: ", name, word),
+        Kind::NoName(name) => about(b"missing manual name: ", name),
+        Kind::Nameless(name) => about(b"NAME section without Nm before ", name),
     }
 }
 

@@ -2,7 +2,7 @@
 //! ended.
 //!
 //! It stands on filters, filters_complaints, mdoc_converter, nr_units and nr_vectors. To read: `names`, `lines`, `blocks`, `telling`, `wording`,
-//! `watching`, `watched`; `complaints`, `looking`, `rooms`, `program`.
+//! `naming`, `watching`, `watched`; `complaints`, `looking`, `rooms`, `program`.
 #![tactic(auto)]
 
 mod blocks;
@@ -10,6 +10,7 @@ mod complaints;
 mod lines;
 mod looking;
 mod names;
+mod naming;
 mod program;
 mod rooms;
 mod telling;

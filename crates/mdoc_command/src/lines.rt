@@ -2,7 +2,7 @@
 ghost use Rattle.std.specs.Prelude.{◌≡◌};
 ghost use Rattle.mdoc_command.specs.Lines as specs;
 
-use super::names::{defines, is_parsed, is_request};
+use super::names::{defines, hides, is_parsed, is_request};
 use nr_units::Name;
 
 /// So many lines are looked at for `.Dd`, besides those that are empty or comments.
@@ -75,6 +75,8 @@ pub struct Half {
     pub calls: bool,
     /// The page is one of mdoc.
     pub awake: bool,
+    /// Lines or words came that are not looked at, and may name the page.
+    pub hidden: bool,
 }
 
 /// Whether a byte ends a word.
@@ -156,6 +158,7 @@ impl Half {
             cut: false,
             calls: false,
             awake: false,
+            hidden: false,
         }
     }
 
@@ -326,6 +329,7 @@ impl Half {
         ensures half { self.new ≡ (specs.after_name byte self.old).0 }
         ensures whole { result ≡ (specs.after_name byte self.old).1 }
     {
+        self.hidden = self.hidden || hides(self.name.as_bytes());
         if defines(self.name.as_bytes()) {
             self.line = body_after(byte);
             return Whole::Nothing;

@@ -28,6 +28,17 @@ pub fn defines(name: &[u8]) -> bool
     name == b"de".as_slice() || name == b"am".as_slice() || name == b"ig".as_slice()
 }
 
+/// Whether a request has lines or words that are not looked at, which may name the page.
+pub fn hides(name: &[u8]) -> bool
+    ensures { result ≡ specs.hides name.now }
+{
+    defines(name)
+        || name == b"if".as_slice()
+        || name == b"ie".as_slice()
+        || name == b"el".as_slice()
+        || name == b"so".as_slice()
+}
+
 /// Whether a table has a name of two bytes.
 fn is_in(table: &[[u8; 2]], first: u8, second: u8) -> bool
     ensures { result ≡ specs.is_in table.now first second }
@@ -166,6 +177,22 @@ pub fn is_list_kind(word: &[u8]) -> bool
         || word == b"-diag".as_slice()
         || word == b"-item".as_slice()
         || word == b"-column".as_slice()
+}
+
+/// Whether a word is an option of a list or a display, the macro, that has a word of its own.
+pub fn has_value(name: &[u8], word: &[u8]) -> bool
+    ensures { result ≡ specs.has_value name.now word.now }
+{
+    word == b"-offset".as_slice()
+        || (name == b"Bl".as_slice() && word == b"-width".as_slice())
+        || (name == b"Bd".as_slice() && word == b"-file".as_slice())
+}
+
+/// Whether it is one without.
+pub fn is_flag(name: &[u8], word: &[u8]) -> bool
+    ensures { result ≡ specs.is_flag name.now word.now }
+{
+    word == b"-compact".as_slice() || (name == b"Bl".as_slice() && word == b"-nested".as_slice())
 }
 
 /// Whether a word is the kind of a display.

@@ -38,6 +38,14 @@ pub enum Kind {
     Late(Name),
     /// A quote in the line of this macro isn't ended.
     OpenQuote(Name),
+    /// This macro of the title comes again.
+    Again(Name),
+    /// A list or a display, the macro, has the word where none is left that it asks.
+    Excess(Name, Name),
+    /// This macro stands for the page's name, which has none.
+    NoName(Name),
+    /// The section NAME has no name before the macro of its description.
+    Nameless(Name),
 }
 
 /// What is wrong with a line.

@@ -4,7 +4,8 @@ ghost use Rattle.mdoc_command.specs.Watching as specs;
 
 use super::blocks::{OpenBlock, place_of};
 use super::lines::{Half, Line, Whole};
-use super::names::{opener_of, opens};
+use super::names::{is_mark, opener_of, opens};
+use super::naming::Naming;
 use super::telling::{Complaint, Kind, report_broken, report_not_ended};
 use super::wording::Wording;
 use filters_complaints::Complaints;
@@ -21,8 +22,14 @@ pub struct Watch<'a> {
     reported: Complaints<'a, Complaint>,
     /// The line of a macro.
     wording: Wording,
+    /// The page's name.
+    naming: Naming,
     /// A section has begun.
     headed: bool,
+    /// `.Dt` came.
+    titled: bool,
+    /// `.Os` came.
+    system: bool,
 }
 
 /// Whether a word between quotes, or one with an escape, begins where a line is read so after it was read otherwise.
@@ -48,7 +55,7 @@ impl<'a> Model for Watch<'a> {
 
     ghost Value = { Page };
 
-    ghost view = { λ w. record { half = w.half; blocks = w.blocks; reported = w.reported; wording = w.wording; headed = w.headed } };
+    ghost view = { λ w. record { half = w.half; blocks = w.blocks; reported = w.reported; wording = w.wording; naming = w.naming; headed = w.headed; titled = w.titled; system = w.system } };
 }
 
 impl<'a> Watch<'a> {
@@ -61,7 +68,10 @@ impl<'a> Watch<'a> {
             blocks: SliceVec::over(blocks),
             reported: Complaints::over(complaints),
             wording: Wording::none(),
+            naming: Naming::new(),
             headed: false,
+            titled: false,
+            system: false,
         }
     }
 
@@ -76,8 +86,8 @@ impl<'a> Watch<'a> {
     ///
     /// Proved: What is reported of a page is what the definition finds wrong with it: macros that are none, blocks
     /// and enclosures that nothing ends, ends of what is not open or in the wrong order, too many that are open, what
-    /// stands outside of its list or comes after the title's place, and the words of a macro's line. (`Watch::hear`,
-    /// `Watch::finish`; `tell_complaints` of filters_complaints writes it)
+    /// stands outside of its list, comes after the title's place or there again, the words of a macro's line, and the
+    /// page's name where it is missing. (`Watch::hear`, `Watch::finish`; `tell_complaints` of filters_complaints writes it)
     #[inline(always)]
     pub fn hear(&mut self, byte: u8)
         ensures { self.new ≡ specs.heard byte self.old }
@@ -101,6 +111,7 @@ impl<'a> Watch<'a> {
         ensures { self.new ≡ specs.worded self.old }
     {
         let word = self.half.name;
+        self.name_word();
         if self.half.calls {
             self.call();
         }
@@ -110,6 +121,44 @@ impl<'a> Watch<'a> {
             self.has_columns();
         }
         self.wording.takes(word);
+    }
+
+    /// The word may be that of `.Nm`, call it, or call another macro, so that it has none.
+    fn name_word(&mut self)
+        ensures { self.new ≡ specs.name_worded self.old }
+    {
+        let word = self.half.name;
+        if word.is_empty() || is_mark(word.as_bytes()) {
+            return;
+        }
+        if self.half.calls && is_macro(word.as_bytes()) {
+            self.end_name();
+            self.naming.waits = word.as_bytes() == b"Nm".as_slice();
+        } else {
+            self.naming.takes();
+        }
+    }
+
+    /// Where `.Nm` waits it has no word, and stands for the page's name.
+    fn end_name(&mut self)
+        ensures { self.new ≡ specs.name_ended self.old }
+    {
+        if self.naming.waits && !self.naming.known && !self.half.hidden {
+            self.tell(Kind::NoName(Name::of(b"Nm")));
+        }
+        self.naming.waits = false;
+    }
+
+    /// A section NAME ends, or its description comes: it has no name where no `.Nm` came.
+    fn end_naming(&mut self)
+        ensures { self.new ≡ specs.naming_ended self.old }
+    {
+        let line = self.naming.section;
+        self.naming.section = 0;
+        if line > 0 && !self.half.hidden {
+            let kind = Kind::Nameless(Name::of(b"Nd"));
+            self.reported.report(Complaint { kind, line });
+        }
     }
 
     /// The list that the line begins is one of columns.
@@ -132,7 +181,8 @@ impl<'a> Watch<'a> {
             return;
         }
         if begins_other(before, self.half.line) {
-            self.wording.counts();
+            self.wording.takes_other();
+            self.naming.takes();
         }
         if matches!(self.half.line, Line::Start) {
             self.end_line(before);
@@ -144,6 +194,10 @@ impl<'a> Watch<'a> {
         ensures { self.new ≡ specs.line_ended before self.old }
     {
         self.wording.reading = false;
+        self.end_name();
+        if self.wording.names_section() {
+            self.naming.section = self.wording.line;
+        }
         let wrong = if matches!(before, Line::Quoted(_)) {
             Some(Kind::OpenQuote(self.wording.name))
         } else {
@@ -171,6 +225,7 @@ impl<'a> Watch<'a> {
     pub fn finish(&mut self)
         ensures { self.new ≡ specs.finished self.old }
     {
+        self.end_naming();
         report_not_ended(self.blocks.as_slice(), &mut self.reported);
         self.blocks.clear();
     }
@@ -192,11 +247,53 @@ impl<'a> Watch<'a> {
         let cut = self.half.cut;
         if is_macro(name.as_bytes()) {
             self.wording = Wording::of(name, self.half.number);
+            self.names();
             self.begins();
         } else {
             self.tell(Kind::Unknown(name, cut));
         }
         self.half.name = Name::new();
+    }
+
+    /// It may name the page, or end the place of its name.
+    fn names(&mut self)
+        ensures { self.new ≡ specs.named self.old }
+    {
+        let name = self.half.name;
+        let bytes = name.as_bytes();
+        if bytes == b"Nm".as_slice() {
+            self.naming.waits = true;
+            self.naming.section = 0;
+        } else if bytes == b"Nd".as_slice() || bytes == b"Sh".as_slice() {
+            self.end_naming();
+        }
+    }
+
+    /// A macro of the title comes: one that came before is told.
+    fn title_if(&mut self, came: bool)
+        ensures { self.new ≡ specs.title_if came self.old }
+    {
+        if came {
+            self.tell(Kind::Again(self.half.name));
+        }
+    }
+
+    /// A macro of the title comes. `.Dd` came before, as it tells that the page is one of mdoc.
+    fn titles(&mut self)
+        ensures { self.new ≡ specs.titles self.old }
+    {
+        let name = self.half.name;
+        if name.as_bytes() == b"Dt".as_slice() {
+            let came = self.titled;
+            self.titled = true;
+            self.title_if(came);
+        } else if name.as_bytes() == b"Os".as_slice() {
+            let came = self.system;
+            self.system = true;
+            self.title_if(came);
+        } else {
+            self.title_if(true);
+        }
     }
 
     /// It is one that is known.
@@ -211,6 +308,8 @@ impl<'a> Watch<'a> {
             self.breaks(n);
         } else if self.headed && is_prologue(bytes) {
             self.tell(Kind::Late(name));
+        } else if is_prologue(bytes) {
+            self.titles();
         } else if bytes == b"It".as_slice() {
             self.begins_item();
         } else {
