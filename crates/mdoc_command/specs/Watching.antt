@@ -16,7 +16,7 @@ use Rattle.mdoc_command.specs.declared.blocks.OpenBlock.{OpenBlock}
 use Rattle.mdoc_command.specs.declared.telling.Kind.{Kind}
 use Rattle.mdoc_command.specs.declared.telling.Kind.TheVariants as kinds
 use Rattle.mdoc_command.specs.Lines as lines
-use Rattle.mdoc_command.specs.Names.{is_mark, opener_of, opens}
+use Rattle.mdoc_command.specs.Names.{is_mark, is_request, opener_of, opens}
 use Rattle.mdoc_command.specs.Naming as naming
 use Rattle.mdoc_command.specs.declared.naming.Naming.{Naming}
 use Rattle.mdoc_command.specs.declared.wording.Wording.{Wording}
@@ -130,7 +130,7 @@ name_called p =
 abbrev pub name_worded : Page → Page
 name_worded p =
     if length p.half.name == 0 || is_mark p.half.name then p else
-    if p.half.calls && is_some (macro_of p.half.name) then name_called p
+    if p.half.calls && (not (is_request p.half.name) && is_some (macro_of p.half.name)) then name_called p
     else with_naming (naming.taking p.naming) p
 
 -- a section NAME ends, or its description comes, and no line of `.Nm` came in it

@@ -4,7 +4,7 @@ ghost use Rattle.mdoc_command.specs.Watching as specs;
 
 use super::blocks::{OpenBlock, place_of};
 use super::lines::{Half, Line, Whole};
-use super::names::{is_mark, opener_of, opens};
+use super::names::{is_mark, is_request, opener_of, opens};
 use super::naming::Naming;
 use super::telling::{Complaint, Kind, report_broken, report_not_ended};
 use super::wording::Wording;
@@ -131,7 +131,8 @@ impl<'a> Watch<'a> {
         if word.is_empty() || is_mark(word.as_bytes()) {
             return;
         }
-        if self.half.calls && is_macro(word.as_bytes()) {
+        let is_called = !is_request(word.as_bytes()) && is_macro(word.as_bytes());
+        if self.half.calls && is_called {
             self.end_name();
             self.naming.waits = word.as_bytes() == b"Nm".as_slice();
         } else {
