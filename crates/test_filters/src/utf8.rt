@@ -43,8 +43,8 @@ static TEXTS: [(&str, Page<'static>); 19] = [
     ("boxed", Page::Bytes(b".TS\nbox;\nl.\n\xc4\x99\n.TE\n")),
 ];
 
-static ROWS: [Case; 41] = [
-    Case {
+static ROWS: [Row; 38] = [
+    Row {
         words: &[b"utf8", b"latin"],
         output: b"caf\xc3\xa9_",
         status: 0,
@@ -56,39 +56,21 @@ static ROWS: [Case; 41] = [
         status: 0,
         line: b"",
     },
-    Case {
-        words: &[b"utf8", b"latin", b"underlined"],
-        output: b"_\x08a_\x08b c__\x08_\n_",
-        status: 0,
-        line: b"",
-    },
-    Case {
+    Row {
         words: &[b"utf8", b"-c", b"latin", b"underlined"],
         output: b"\x1b[4mab\x1b[24m c_\x1b[1m_\x1b[22m\n_",
         status: 0,
         line: b"",
     },
     // `_` over itself goes on what is underlined, and else is bold.
-    Case {
-        words: &[b"utf8", b"latin", b"bold"],
-        output: b"_\x08_e\x08e\xc3\xa9\x08\xc3\xa9(_\x08\xc3\xa9_\x08_\n-\x08--\x08-",
-        status: 0,
-        line: b"",
-    },
-    Case {
+    Row {
         words: &[b"utf8", b"-c", b"latin", b"bold"],
         output: b"\x1b[1m_e\xc3\xa9\x1b[22m(\x1b[4m\xc3\xa9_\x1b[24m\n\x1b[1m--\x1b[22m",
         status: 0,
         line: b"",
     },
     // A backspace strikes no other byte, and no blank; a third byte is a cell of its own.
-    Case {
-        words: &[b"utf8", b"latin", b"apart"],
-        output: b"ab  _ x\x08xx\n",
-        status: 0,
-        line: b"utf8: 4 bytes dropped that show nothing\n",
-    },
-    Case {
+    Row {
         words: &[b"utf8", b"-c", b"latin", b"apart"],
         output: b"ab  _ \x1b[1mx\x1b[22mx\n",
         status: 0,
