@@ -1,24 +1,17 @@
-// Whole runs of preconv over words, and over texts in memory.
-use command_line::fakes::{Closing, Page, System, Typed};
+// Whole runs of preconv over words, and over texts in memory. Standard input is `café` in UTF-8.
+use crate::runs::{Named, Run, comes_to, reports_a_write_fault};
+use command_line::fakes::{Page, System};
 use filters::run_program;
 use preconv_command::Preconv;
-use std::cell::Cell;
 
-/// A run: its words, what it writes, its status and its line. Standard input is `café` in UTF-8.
-struct Case {
-    words: &'static [&'static [u8]],
-    output: &'static [u8],
-    status: u8,
-    line: &'static [u8],
-}
-
-static TEXTS: [(&str, Page<'static>); 9] = [
+static TEXTS: [Named; 10] = [
     (
         "quotes",
         Page::Bytes(b"\xe2\x80\x9ca\xe2\x80\x9d \\(em \\fIb\\fP\n"),
     ),
     ("latin", Page::Bytes(b"na\xefve \xc3\xa9\n")),
     ("half", Page::Bytes(b"\\(l")),
+    ("scripts", Page::Bytes(b"\xc5\x98\xe5\x90\x8d a\n")),
     ("other", Page::Bytes(b"q\n.tr x")),
     (
         "named",
@@ -36,229 +29,180 @@ static TEXTS: [(&str, Page<'static>); 9] = [
     ("cut", Page::Cut(b"a\\~b\n.BR c\\(l")),
 ];
 
-static ROWS: [Row; 20] = [
-    Row {
+static RUNS: [Run; 23] = [
+    Run {
         words: &[b"preconv"],
         output: b"cafe\n",
         status: 0,
-        line: b"",
+        lines: b"",
     },
-    Case {
+    Run {
         words: &[b"preconv", b"-8"],
         output: b"caf\xe9\n",
         status: 0,
-        line: b"",
+        lines: b"",
     },
-    Case {
+    Run {
         words: &[b"preconv", b"-8", b"-8", b"latin"],
         output: b"na\xefve \xe9\n",
         status: 0,
-        line: b"",
+        lines: b"",
     },
     // Characters of the table are its bytes, by their names too.
-    Case {
+    Run {
         words: &[b"preconv", b"-u", b"latin", b"quotes"],
         output: b"\xffa\xbc \xb4 \\fIb\\fP\n",
         status: 0,
-        line: b"",
+        lines: b"",
     },
     // So are the acute accent's escape, the strings for quotes of -man, and a letter with marks where the table has both.
-    Row {
+    Run {
         words: &[b"preconv", b"-u", b"english", b"named"],
         output: b"\xb4a \x88b\x89 \xae \xe9 <alpha>\n",
         status: 0,
-        line: b"",
+        lines: b"",
     },
-    Case {
+    Run {
         words: &[b"preconv", b"-u"],
         output: b"",
         status: 2,
-        line: b"preconv: no table is named\n",
+        lines: b"preconv: no table is named\n",
     },
-    Case {
+    Run {
         words: &[b"preconv", b"-8", b"-u", b"Latin"],
         output: b"",
         status: 2,
-        line: b"preconv: unknown table Latin\n",
+        lines: b"preconv: unknown table Latin\n",
     },
     // Standard input stands where it is named, and ends once.
-    Case {
+    Run {
         words: &[b"preconv", b"quotes", b"-", b"latin", b"-"],
         output: b"\\(dqa\\(dq \\(em \\fIb\\fP\ncafe\nnaive e\n",
         status: 0,
-        line: b"",
+        lines: b"",
     },
     // Text is read under its coding.
-    Row {
+    Run {
         words: &[b"preconv", b"-u", b"cyrillic", b"russian"],
         output: b".\\\" -*- mode: nroff; coding: KOI8-R -*-\n\x9a\xcd\xde a\n",
         status: 0,
-        line: b"",
+        lines: b"",
     },
     // A coding that is not known is reported.
-    Case {
+    Run {
         words: &[b"preconv", b"japanese", b"half"],
         output: b".TH x\n.\\\" -*- coding: EUC-JP-unix -*-\nae\n\\(l\n",
         status: 1,
-        line: b"preconv: japanese:2: unknown coding euc-jp-unix\n",
+        lines: b"preconv: japanese:2: unknown coding euc-jp-unix\n",
     },
     // Each file is turned by itself, and ends with a newline.
-    Case {
+    Run {
         words: &[b"preconv", b"half", b"other", b"half"],
         output: b"\\(l\nq\n.tr x\n\\(l\n",
         status: 0,
-        line: b"",
+        lines: b"",
     },
     // What stands after a file is a file.
-    Case {
+    Run {
         words: &[b"preconv", b"latin", b"-8"],
         output: b"",
         status: 3,
-        line: b"preconv: cannot open -8\n",
+        lines: b"preconv: cannot open -8\n",
     },
-    Case {
+    Run {
         words: &[b"preconv", b"-", b"-x"],
         output: b"",
         status: 3,
-        line: b"preconv: cannot open -x\n",
+        lines: b"preconv: cannot open -x\n",
     },
     // The first that can't be opened is reported, before anything is read.
-    Case {
+    Run {
         words: &[b"preconv", b"folder", b"none", b"nor"],
         output: b"",
         status: 3,
-        line: b"preconv: cannot open none\n",
+        lines: b"preconv: cannot open none\n",
     },
-    Case {
+    Run {
         words: &[b"preconv", b""],
         output: b"",
         status: 3,
-        line: b"preconv: cannot open \n",
+        lines: b"preconv: cannot open \n",
     },
     // The first word that is no option is reported, before anything is opened.
-    Case {
+    Run {
         words: &[b"preconv", b"-8", b"-88", b"-x", b"none"],
         output: b"",
         status: 2,
-        line: b"preconv: unknown option -88\n",
+        lines: b"preconv: unknown option -88\n",
     },
-    Case {
+    Run {
         words: &[b"preconv", b"--"],
         output: b"",
         status: 2,
-        line: b"preconv: unknown option --\n",
+        lines: b"preconv: unknown option --\n",
     },
-    Case {
+    Run {
         words: &[b"preconv", b"folder", b"latin"],
         output: b"",
         status: 3,
-        line: b"preconv: folder: read fault at byte 0\n",
+        lines: b"preconv: folder: read fault at byte 0\n",
     },
     // What came before the fault is out, but for what is half read; bytes are those of the file.
-    Case {
+    Run {
         words: &[b"preconv", b"latin", b"cut", b"latin"],
         output: b"naive e\na\\ b\n.BR c",
         status: 3,
-        line: b"preconv: cut: read fault at byte 13\n",
+        lines: b"preconv: cut: read fault at byte 13\n",
     },
-    Case {
+    Run {
         words: &[b"preconv", b"-8", b"cut"],
         output: b"a\\ b\n.BR c",
         status: 3,
-        line: b"preconv: cut: read fault at byte 13\n",
+        lines: b"preconv: cut: read fault at byte 13\n",
+    },
+    // The table of what a file prints: 11 bytes for frames, and then those of the file; a character of two columns is two.
+    Run {
+        words: &[b"preconv", b"-u", b"own:scripts", b"scripts", b"-"],
+        output: b"\x8b\\(zb\xfe\xff a\ncafe\n",
+        status: 0,
+        lines: b"",
+    },
+    Run {
+        words: &[b"preconv", b"-u", b"own:none", b"missing"],
+        output: b"",
+        status: 3,
+        lines: b"preconv: cannot open none\n",
+    },
+    Run {
+        words: &[b"preconv", b"-u", b"own:cut", b"latin"],
+        output: b"",
+        status: 3,
+        lines: b"preconv: cannot read cut\n",
     },
 ];
 
 #[test]
 fn runs_in_a_system(rt: HostRuntime) {
-    for row in &ROWS {
-        let system = System {
-            words: row.words,
-            texts: &TEXTS,
-        };
-        let left = Cell::new(b"caf\xc3\xa9".as_slice());
-        let input = Typed { left: &left };
-        let mut output = Vec::new(rt.alloc());
-        let mut line = Vec::new(rt.alloc());
-        let status = run_program(&Preconv, &system, rt.alloc(), input, &mut output, &mut line);
-        let words = row.words;
-        assert!(rt; output.as_slice() == row.output, "{words:?}");
-        assert!(rt; line.as_slice() == row.line, "{words:?}");
-        assert_eq!(rt; status, row.status, "{words:?}");
-    }
-}
-
-static OWN_TEXTS: [(&str, Page<'static>); 3] = [
-    ("scripts", Page::Bytes(b"\xc5\x98\xe5\x90\x8d a\n")),
-    ("latin", Page::Bytes(b"na\xefve \xc3\xa9\n")),
-    ("cut", Page::Cut(b"a\\~b\n.BR c\\(l")),
-];
-
-// The table of what a file prints: 11 bytes for frames, and then those of the file; a character of two columns is two.
-static OWN_ROWS: [Case; 3] = [
-    Case {
-        words: &[b"preconv", b"-u", b"own:scripts", b"scripts", b"-"],
-        output: b"\x8b\\(zb\xfe\xff a\ncafe\n",
-        status: 0,
-        line: b"",
-    },
-    Case {
-        words: &[b"preconv", b"-u", b"own:none", b"missing"],
-        output: b"",
-        status: 3,
-        line: b"preconv: cannot open none\n",
-    },
-    Case {
-        words: &[b"preconv", b"-u", b"own:cut", b"latin"],
-        output: b"",
-        status: 3,
-        line: b"preconv: cannot read cut\n",
-    },
-];
-
-#[test]
-fn turns_by_a_table_of_its_own(rt: HostRuntime) {
-    for row in &OWN_ROWS {
-        let system = System {
-            words: row.words,
-            texts: &OWN_TEXTS,
-        };
-        let left = Cell::new(b"caf\xc3\xa9".as_slice());
-        let input = Typed { left: &left };
-        let mut output = Vec::new(rt.alloc());
-        let mut line = Vec::new(rt.alloc());
-        let status = run_program(&Preconv, &system, rt.alloc(), input, &mut output, &mut line);
-        let words = row.words;
-        assert!(rt; output.as_slice() == row.output, "{words:?}");
-        assert!(rt; line.as_slice() == row.line, "{words:?}");
-        assert_eq!(rt; status, row.status, "{words:?}");
+    for run in &RUNS {
+        let words = run.words;
+        assert!(rt;
+            comes_to(&Preconv, rt.alloc(), &TEXTS, b"caf\xc3\xa9", run),
+            "{words:?}"
+        );
     }
 }
 
 // A write that fails, and a flush; a read fault is not reported then.
 #[test]
-fn tells_an_output_that_fails(rt: HostRuntime) {
+fn reports_an_output_that_fails(rt: HostRuntime) {
     for (takes, text) in [
         (false, b"quotes".as_slice()),
         (true, b"quotes"),
         (true, b"cut"),
     ] {
-        let system = System {
-            words: &[b"preconv", text],
-            texts: &TEXTS,
-        };
-        let mut line = Vec::new(rt.alloc());
-        let input = b"".as_slice();
-        let status = run_program(
-            &Preconv,
-            &system,
-            rt.alloc(),
-            input,
-            Closing { takes },
-            &mut line,
-        );
-        assert_eq!(rt; status, 4);
-        assert!(rt; line.as_slice() == b"preconv: write fault\n".as_slice());
+        let words = [b"preconv".as_slice(), text];
+        let line = b"preconv: write fault\n".as_slice();
+        assert!(rt; reports_a_write_fault(&Preconv, rt.alloc(), &TEXTS, &words, takes, line));
     }
 }
 

@@ -1,18 +1,9 @@
-// Whole runs of utf8 over words, and over texts in memory.
-use command_line::fakes::{Closing, Page, System, Typed};
-use filters::run_program;
-use std::cell::Cell;
+// Whole runs of utf8 over words, and over texts in memory. Standard input is `caf`, a byte of the table and `_`.
+use crate::runs::{Named, Run, comes_to, reports_a_write_fault};
+use command_line::fakes::Page;
 use utf8_command::Utf8;
 
-/// A run: its words, what it writes, its status and its line. Standard input is `caf`, a byte of the table and `_`.
-struct Case {
-    words: &'static [&'static [u8]],
-    output: &'static [u8],
-    status: u8,
-    line: &'static [u8],
-}
-
-static TEXTS: [(&str, Page<'static>); 19] = [
+static TEXTS: [Named; 19] = [
     ("underlined", Page::Bytes(b"_\x08a_\x08b c__\x08_\n_")),
     (
         "bold",
@@ -43,292 +34,271 @@ static TEXTS: [(&str, Page<'static>); 19] = [
     ("boxed", Page::Bytes(b".TS\nbox;\nl.\n\xc4\x99\n.TE\n")),
 ];
 
-static ROWS: [Row; 38] = [
-    Row {
+static RUNS: [Run; 38] = [
+    Run {
         words: &[b"utf8", b"latin"],
         output: b"caf\xc3\xa9_",
         status: 0,
-        line: b"",
+        lines: b"",
     },
-    Case {
+    Run {
         words: &[b"utf8", b"cyrillic", b"-"],
         output: b"caf\xd2\x90_",
         status: 0,
-        line: b"",
+        lines: b"",
     },
-    Row {
+    Run {
         words: &[b"utf8", b"-c", b"latin", b"underlined"],
         output: b"\x1b[4mab\x1b[24m c_\x1b[1m_\x1b[22m\n_",
         status: 0,
-        line: b"",
+        lines: b"",
     },
     // `_` over itself goes on what is underlined, and else is bold.
-    Row {
+    Run {
         words: &[b"utf8", b"-c", b"latin", b"bold"],
         output: b"\x1b[1m_e\xc3\xa9\x1b[22m(\x1b[4m\xc3\xa9_\x1b[24m\n\x1b[1m--\x1b[22m",
         status: 0,
-        line: b"",
+        lines: b"",
     },
     // A backspace strikes no other byte, and no blank; a third byte is a cell of its own.
-    Row {
+    Run {
         words: &[b"utf8", b"-c", b"latin", b"apart"],
         output: b"ab  _ \x1b[1mx\x1b[22mx\n",
         status: 0,
-        line: b"utf8: 4 bytes dropped that show nothing\n",
+        lines: b"utf8: 4 bytes dropped that show nothing\n",
     },
     // No control character goes out but newline.
-    Case {
+    Run {
         words: &[b"utf8", b"latin", b"hostile"],
         output: b"[1m_\x08-\n\xe2\x80\x9c",
         status: 0,
-        line: b"utf8: 5 bytes dropped that show nothing\n",
+        lines: b"utf8: 5 bytes dropped that show nothing\n",
     },
     // What is half read at the end of a file is no part of the next.
-    Case {
+    Run {
         words: &[b"utf8", b"latin", b"half", b"half"],
         output: b"a_a_",
         status: 0,
-        line: b"utf8: 2 bytes dropped that show nothing\n",
+        lines: b"utf8: 2 bytes dropped that show nothing\n",
     },
-    Case {
+    Run {
         words: &[b"utf8"],
         output: b"",
         status: 2,
-        line: b"utf8: no table is named\n",
+        lines: b"utf8: no table is named\n",
     },
-    Case {
+    Run {
         words: &[b"utf8", b"-c"],
         output: b"",
         status: 2,
-        line: b"utf8: no table is named\n",
+        lines: b"utf8: no table is named\n",
     },
-    Case {
+    Run {
         words: &[b"utf8", b"Latin"],
         output: b"",
         status: 2,
-        line: b"utf8: unknown table Latin\n",
+        lines: b"utf8: unknown table Latin\n",
     },
-    Case {
+    Run {
         words: &[b"utf8", b"-x", b"latin"],
         output: b"",
         status: 2,
-        line: b"utf8: unknown option -x\n",
+        lines: b"utf8: unknown option -x\n",
     },
-    Case {
+    Run {
         words: &[b"utf8", b"-c", b"-c", b"latin"],
         output: b"",
         status: 2,
-        line: b"utf8: unknown option -c\n",
+        lines: b"utf8: unknown option -c\n",
     },
-    Case {
+    Run {
         words: &[b"utf8", b"latin", b"none"],
         output: b"",
         status: 3,
-        line: b"utf8: cannot open none\n",
+        lines: b"utf8: cannot open none\n",
     },
-    Case {
+    Run {
         words: &[b"utf8", b"--choose", b"russian"],
         output: b"own:russian\n",
         status: 0,
-        line: b"",
+        lines: b"",
     },
-    Case {
+    Run {
         words: &[b"utf8", b"--choose", b"greek"],
         output: b"greek\n",
         status: 0,
-        line: b"",
+        lines: b"",
     },
     // A page is read under its coding.
-    Case {
+    Run {
         words: &[b"utf8", b"--choose", b"named"],
         output: b"greek\n",
         status: 0,
-        line: b"",
+        lines: b"",
     },
-    Case {
+    Run {
         words: &[b"utf8", b"--choose", b"polish"],
         output: b"latin\n",
         status: 0,
-        line: b"",
+        lines: b"",
     },
     // Names count where only some tables have what they name.
-    Case {
+    Run {
         words: &[b"utf8", b"--choose", b"letters"],
         output: b"latin\n",
         status: 0,
-        line: b"",
+        lines: b"",
     },
-    Case {
+    Run {
         words: &[b"utf8", b"--choose", b"accents"],
         output: b"english\n",
         status: 0,
-        line: b"",
+        lines: b"",
     },
-    Case {
+    Run {
         words: &[b"utf8", b"--choose", b"ordinals"],
         output: b"latin\n",
         status: 0,
-        line: b"",
+        lines: b"",
     },
     // Of two that have as many, the one that draws boxes.
-    Case {
+    Run {
         words: &[b"utf8", b"--choose", b"arrow"],
         output: b"english\n",
         status: 0,
-        line: b"",
+        lines: b"",
     },
     // Where no table has a character, and from standard input where no file is named.
-    Case {
+    Run {
         words: &[b"utf8", b"--choose", b"plain"],
         output: b"english\n",
         status: 0,
-        line: b"",
+        lines: b"",
     },
-    Case {
+    Run {
         words: &[b"utf8", b"--choose"],
         output: b"english\n",
         status: 0,
-        line: b"",
+        lines: b"",
     },
-    Case {
+    Run {
         words: &[b"utf8", b"--choose", b"plain", b"greek"],
         output: b"",
         status: 2,
-        line: b"utf8: --choose takes one file\n",
+        lines: b"utf8: --choose takes one file\n",
     },
-    Case {
+    Run {
         words: &[b"utf8", b"--choose", b"cut"],
         output: b"",
         status: 3,
-        line: b"utf8: cannot read cut\n",
+        lines: b"utf8: cannot read cut\n",
     },
-    Case {
+    Run {
         words: &[b"utf8", b"--choose", b"none"],
         output: b"",
         status: 3,
-        line: b"utf8: cannot open none\n",
+        lines: b"utf8: cannot open none\n",
     },
-    Case {
+    Run {
         words: &[b"utf8", b"--version"],
         output: b"utf8 0.2.0\n",
         status: 0,
-        line: b"",
+        lines: b"",
     },
-    Case {
+    Run {
         words: &[b"utf8", b"latin", b"--choose"],
         output: b"",
         status: 3,
-        line: b"utf8: cannot open --choose\n",
+        lines: b"utf8: cannot open --choose\n",
     },
     // What was half read does not go out where the file fails.
-    Case {
+    Run {
         words: &[b"utf8", b"latin", b"cut"],
         output: b"ab",
         status: 3,
-        line: b"utf8: cut: read fault at byte 4\n",
+        lines: b"utf8: cut: read fault at byte 4\n",
     },
-    Case {
+    Run {
         words: &[b"utf8", b"-c", b"latin", b"struck"],
         output: b"\x1b[1m_",
         status: 3,
-        line: b"utf8: struck: read fault at byte 5\n",
+        lines: b"utf8: struck: read fault at byte 5\n",
     },
-    Case {
+    Run {
         words: &[b"utf8", b"own:scripts", b"cut"],
         output: b"ab",
         status: 3,
-        line: b"utf8: cut: read fault at byte 4\n",
+        lines: b"utf8: cut: read fault at byte 4\n",
     },
     // The table of what a file prints: after what frames are drawn with comes what is in the file.
-    Case {
+    Run {
         words: &[b"utf8", b"own:scripts", b"coded"],
         output: b"\xc5\x98_\x08\xe5\x90\x8d \xe2\x94\x82\xe5\x90\x8d\xe2\x94\x82\n",
         status: 0,
-        line: b"",
+        lines: b"",
     },
-    Case {
+    Run {
         words: &[b"utf8", b"-c", b"own:scripts", b"coded"],
         output: b"\xc5\x98\x1b[4m\xe5\x90\x8d\x1b[24m \xe2\x94\x82\xe5\x90\x8d\xe2\x94\x82\n",
         status: 0,
-        line: b"",
+        lines: b"",
     },
     // It is opened before the others, and reported by its name.
-    Case {
+    Run {
         words: &[b"utf8", b"own:none", b"missing"],
         output: b"",
         status: 3,
-        line: b"utf8: cannot open none\n",
+        lines: b"utf8: cannot open none\n",
     },
-    Case {
+    Run {
         words: &[b"utf8", b"own:cut", b"coded"],
         output: b"",
         status: 3,
-        line: b"utf8: cannot read cut\n",
+        lines: b"utf8: cannot read cut\n",
     },
-    Case {
+    Run {
         words: &[b"utf8", b"--choose", b"scripts"],
         output: b"own:scripts\n",
         status: 0,
-        line: b"",
+        lines: b"",
     },
     // A page with a table needs what frames are drawn with, which the table of Latin letters lacks.
-    Case {
+    Run {
         words: &[b"utf8", b"--choose", b"boxed"],
         output: b"own:boxed\n",
         status: 0,
-        line: b"",
+        lines: b"",
     },
-    // Of standard input the name of a fixed table is reported.
-    Case {
+    // Of standard input the name of a fixed table is told.
+    Run {
         words: &[b"utf8", b"--choose", b"-"],
         output: b"english\n",
         status: 0,
-        line: b"",
+        lines: b"",
     },
 ];
 
 #[test]
 fn runs_in_a_system(rt: HostRuntime) {
-    for row in &ROWS {
-        let system = System {
-            words: row.words,
-            texts: &TEXTS,
-        };
-        let left = Cell::new(b"caf\xe9_".as_slice());
-        let input = Typed { left: &left };
-        let mut output = Vec::new(rt.alloc());
-        let mut line = Vec::new(rt.alloc());
-        let status = run_program(&Utf8, &system, rt.alloc(), input, &mut output, &mut line);
-        let words = row.words;
-        assert!(rt; output.as_slice() == row.output, "{words:?}");
-        assert!(rt; line.as_slice() == row.line, "{words:?}");
-        assert_eq!(rt; status, row.status, "{words:?}");
+    for run in &RUNS {
+        let words = run.words;
+        assert!(rt;
+            comes_to(&Utf8, rt.alloc(), &TEXTS, b"caf\xe9_", run),
+            "{words:?}"
+        );
     }
 }
 
 // A write that fails, and a flush; a read fault is not reported then.
 #[test]
-fn tells_an_output_that_fails(rt: HostRuntime) {
+fn reports_an_output_that_fails(rt: HostRuntime) {
     for (takes, text) in [
         (false, b"underlined".as_slice()),
         (true, b"underlined"),
         (true, b"cut"),
     ] {
-        let system = System {
-            words: &[b"utf8", b"latin", text],
-            texts: &TEXTS,
-        };
-        let mut line = Vec::new(rt.alloc());
-        let input = b"".as_slice();
-        let status = run_program(
-            &Utf8,
-            &system,
-            rt.alloc(),
-            input,
-            Closing { takes },
-            &mut line,
-        );
-        assert_eq!(rt; status, 4);
-        assert!(rt; line.as_slice() == b"utf8: write fault\n".as_slice());
+        let words = [b"utf8".as_slice(), b"latin", text];
+        let line = b"utf8: write fault\n".as_slice();
+        assert!(rt; reports_a_write_fault(&Utf8, rt.alloc(), &TEXTS, &words, takes, line));
     }
 }
