@@ -3,7 +3,7 @@
 # folder, none is read. Only the first 64 KiB of each page are looked at. What `fold` cut is joined again: a line of 65521
 # bytes goes on in the next.
 #
-# What is wrong is told on standard error, by `clean` of say.awk. It ends with 2 where a page isn't there, and with 1 where
+# What is wrong is reported on standard error, by `clean` of say.awk. It ends with 2 where a page isn't there, and with 1 where
 # the page has equations or pictures that it doesn't define itself.
 
 # Tells what is wrong, which comes to this status.

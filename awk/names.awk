@@ -35,13 +35,13 @@ BEGIN {
     section = substr($0, at + 1)
     page = name "(" section ")"
     if (!size) {
-        if (index(name, begins) == 1 && index(section, only) == 1 && !(page in met)) print page
-        met[page]
+        if (index(name, begins) == 1 && index(section, only) == 1 && !(page in seen)) print page
+        seen[page]
         next
     }
     more = length(name) - size
-    if (more > most || -more > most || page in met) next
-    met[page]
+    if (more > most || -more > most || page in seen) next
+    seen[page]
     far = distance(near, name)
     if (far <= most && count[far]++ < 3) found[far] = found[far] (count[far] > 1 ? ", " : "") page
 }

@@ -13,7 +13,7 @@ struct options {
     bool bold;
 };
 
-struct told {
+struct reported {
     size_t written;
     uint64_t at, moves;
     uint32_t limit;
@@ -38,17 +38,17 @@ struct document_setup {
 
 uint32_t nulbiko_document_lent(const struct document_setup *setup, const uint8_t *macros, size_t macros_length,
                                const uint8_t *page, size_t page_length, uint8_t *output, size_t capacity,
-                               struct told *told);
+                               struct reported *reported);
 
 uint32_t nulbiko_format_lent(const struct limits *limits, const struct options *options, const uint8_t *input,
-                             size_t length, uint8_t *output, size_t capacity, struct told *told);
+                             size_t length, uint8_t *output, size_t capacity, struct reported *reported);
 uint32_t nulbiko_preconv_lent(uint32_t table, const uint8_t *input, size_t length, uint8_t *output, size_t capacity,
-                              struct told *told);
-uint32_t nulbiko_mdoc_lent(const uint8_t *input, size_t length, uint8_t *output, size_t capacity, struct told *told);
+                              struct reported *reported);
+uint32_t nulbiko_mdoc_lent(const uint8_t *input, size_t length, uint8_t *output, size_t capacity, struct reported *reported);
 uint32_t nulbiko_tbl_lent(uint32_t table, size_t line, const uint8_t *input, size_t length, uint8_t *output,
-                          size_t capacity, struct told *told);
+                          size_t capacity, struct reported *reported);
 uint32_t nulbiko_utf8_lent(uint32_t table, bool escapes, const uint8_t *input, size_t length, uint8_t *output,
-                           size_t capacity, struct told *told);
+                           size_t capacity, struct reported *reported);
 uint32_t nulbiko_choose_lent(const uint8_t *input, size_t length);
 
 /* What a call passes, after it was looked at: no pointer is null. */
@@ -76,15 +76,15 @@ static enum nulbiko_outcome look(struct passed *passed, const void *input, size_
     return NULBIKO_DONE;
 }
 
-/* Reports what a call told. */
-static enum nulbiko_outcome ended(uint32_t outcome, const struct told *told, struct nulbiko_report *report)
+/* Reports what a call reported. */
+static enum nulbiko_outcome ended(uint32_t outcome, const struct reported *reported, struct nulbiko_report *report)
 {
-    report->written = told->written;
-    report->at = told->at;
-    report->moves = told->moves;
-    report->limit = told->limit;
-    report->dropped = told->dropped;
-    report->line = told->line;
+    report->written = reported->written;
+    report->at = reported->at;
+    report->moves = reported->moves;
+    report->limit = reported->limit;
+    report->dropped = reported->dropped;
+    report->line = reported->line;
     return (enum nulbiko_outcome)outcome;
 }
 
@@ -93,7 +93,7 @@ enum nulbiko_outcome nulbiko_document(const struct nulbiko_limits *limits, const
                                       struct nulbiko_report *report)
 {
     struct passed passed;
-    struct told told;
+    struct reported reported;
     enum nulbiko_outcome looked = look(&passed, input, length, output, capacity, report);
     if (looked != NULBIKO_DONE)
         return looked;
@@ -116,8 +116,8 @@ enum nulbiko_outcome nulbiko_document(const struct nulbiko_limits *limits, const
     };
     const uint8_t *macros = options->macros ? (const uint8_t *)options->macros : &passed.none;
     uint32_t outcome = nulbiko_document_lent(&setup, macros, options->macros_length, passed.input, length, passed.output,
-                                             capacity, &told);
-    return ended(outcome, &told, report);
+                                             capacity, &reported);
+    return ended(outcome, &reported, report);
 }
 
 enum nulbiko_outcome nulbiko_format(const struct nulbiko_limits *limits, const struct nulbiko_options *options,
@@ -125,7 +125,7 @@ enum nulbiko_outcome nulbiko_format(const struct nulbiko_limits *limits, const s
                                     struct nulbiko_report *report)
 {
     struct passed passed;
-    struct told told;
+    struct reported reported;
     enum nulbiko_outcome looked = look(&passed, input, length, output, capacity, report);
     if (looked != NULBIKO_DONE)
         return looked;
@@ -135,55 +135,55 @@ enum nulbiko_outcome nulbiko_format(const struct nulbiko_limits *limits, const s
         return NULBIKO_OUT_OF_RANGE;
     const struct limits most = {limits->stored, limits->depth, limits->cells, limits->expansions, limits->moves};
     const struct options asked = {options->first, options->bold};
-    uint32_t outcome = nulbiko_format_lent(&most, &asked, passed.input, length, passed.output, capacity, &told);
-    return ended(outcome, &told, report);
+    uint32_t outcome = nulbiko_format_lent(&most, &asked, passed.input, length, passed.output, capacity, &reported);
+    return ended(outcome, &reported, report);
 }
 
 enum nulbiko_outcome nulbiko_preconv(enum nulbiko_table table, const void *input, size_t length, void *output,
                                      size_t capacity, struct nulbiko_report *report)
 {
     struct passed passed;
-    struct told told;
+    struct reported reported;
     enum nulbiko_outcome looked = look(&passed, input, length, output, capacity, report);
     if (looked != NULBIKO_DONE)
         return looked;
-    uint32_t outcome = nulbiko_preconv_lent((uint32_t)table, passed.input, length, passed.output, capacity, &told);
-    return ended(outcome, &told, report);
+    uint32_t outcome = nulbiko_preconv_lent((uint32_t)table, passed.input, length, passed.output, capacity, &reported);
+    return ended(outcome, &reported, report);
 }
 
 enum nulbiko_outcome nulbiko_mdoc(const void *input, size_t length, void *output, size_t capacity,
                                   struct nulbiko_report *report)
 {
     struct passed passed;
-    struct told told;
+    struct reported reported;
     enum nulbiko_outcome looked = look(&passed, input, length, output, capacity, report);
     if (looked != NULBIKO_DONE)
         return looked;
-    return ended(nulbiko_mdoc_lent(passed.input, length, passed.output, capacity, &told), &told, report);
+    return ended(nulbiko_mdoc_lent(passed.input, length, passed.output, capacity, &reported), &reported, report);
 }
 
 enum nulbiko_outcome nulbiko_tbl(enum nulbiko_table table, size_t line, const void *input, size_t length, void *output,
                                  size_t capacity, struct nulbiko_report *report)
 {
     struct passed passed;
-    struct told told;
+    struct reported reported;
     enum nulbiko_outcome looked = look(&passed, input, length, output, capacity, report);
     if (looked != NULBIKO_DONE)
         return looked;
-    uint32_t outcome = nulbiko_tbl_lent((uint32_t)table, line, passed.input, length, passed.output, capacity, &told);
-    return ended(outcome, &told, report);
+    uint32_t outcome = nulbiko_tbl_lent((uint32_t)table, line, passed.input, length, passed.output, capacity, &reported);
+    return ended(outcome, &reported, report);
 }
 
 enum nulbiko_outcome nulbiko_utf8(enum nulbiko_table table, bool escapes, const void *input, size_t length, void *output,
                                   size_t capacity, struct nulbiko_report *report)
 {
     struct passed passed;
-    struct told told;
+    struct reported reported;
     enum nulbiko_outcome looked = look(&passed, input, length, output, capacity, report);
     if (looked != NULBIKO_DONE)
         return looked;
-    uint32_t outcome = nulbiko_utf8_lent((uint32_t)table, escapes, passed.input, length, passed.output, capacity, &told);
-    return ended(outcome, &told, report);
+    uint32_t outcome = nulbiko_utf8_lent((uint32_t)table, escapes, passed.input, length, passed.output, capacity, &reported);
+    return ended(outcome, &reported, report);
 }
 
 enum nulbiko_table nulbiko_choose(const void *input, size_t length)

@@ -8,7 +8,7 @@
  * libnulbiko.a. Over the library that is proved (`rt lib` in crates/nulbiko) include/nulbiko.c has these calls.
  *
  * Shapes. A text is a pointer and a count of bytes; it may be 0 and 0. Nothing ends with a byte 0. No text may
- * overlap another or a struct. An output is written from its front; what lies after the bytes that are
+ * overlap another or a struct. An output is written from its beginning; what lies after the bytes that are
  * reported is left as it was.
  *
  * Structs begin with their `size`, which the caller sets to sizeof: the macros below do. Those that grow take another size,
@@ -153,7 +153,7 @@ struct nulbiko_document_options {
 /* What a call tells beside its outcome. */
 struct nulbiko_report {
     size_t size;
-    size_t written; /* Bytes at the front of the output. */
+    size_t written; /* Bytes at the beginning of the output. */
     uint64_t at;    /* The place in the text of what `limit` tells: of nulbiko_format how many bytes had been
                      * taken, of nulbiko_document how many after the macros of what the formatter reads (0 in the macros), of
                      * nulbiko_tbl the line, counted from 1. */
@@ -186,19 +186,19 @@ enum nulbiko_outcome nulbiko_mdoc(const void *input, size_t length, void *output
                                   struct nulbiko_report *report);
 
 /* Turns what manual pages use into the language of nulbiko_format, as preconv does. The text is read under its coding: as
- * UTF-8, as UTF-16 behind its mark, or as the set of eight bits that its first two lines name (preconv(1)); a name that is
- * none changes nothing, and is not told. Characters of the table become its bytes, which nulbiko_utf8 turns back with the
+ * UTF-8, as UTF-16 after its mark, or as the set of eight bits that its first two lines name (preconv(1)); a name that is
+ * none changes nothing, and is not reported. Characters of the table become its bytes, which nulbiko_utf8 turns back with the
  * same table. */
 enum nulbiko_outcome nulbiko_preconv(enum nulbiko_table table, const void *input, size_t length, void *output,
                                      size_t capacity, struct nulbiko_report *report);
 
 /* Turns tables into the language of nulbiko_format, as tbl does, for a line of so many cells. Boxes are drawn with the
- * characters of the table, where it has them: give it that of nulbiko_preconv. What is wrong with one is told, and
+ * characters of the table, where it has them: give it that of nulbiko_preconv. What is wrong with one is reported, and
  * changes no outcome. */
 enum nulbiko_outcome nulbiko_tbl(enum nulbiko_table table, size_t line, const void *input, size_t length, void *output,
                                  size_t capacity, struct nulbiko_report *report);
 
-/* Formats a text, as nroff does. Macro files stand at its front: it opens no file. */
+/* Formats a text, as nroff does. Macro files stand at its beginning: it opens no file. */
 enum nulbiko_outcome nulbiko_format(const struct nulbiko_limits *limits, const struct nulbiko_options *options,
                                     const void *input, size_t length, void *output, size_t capacity,
                                     struct nulbiko_report *report);

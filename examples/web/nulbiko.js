@@ -66,7 +66,7 @@ export class Nulbiko {
         }
     }
 
-    // The same with room for so many bytes: the outcome, the limit, and what is told beside.
+    // The same with room for so many bytes: the outcome, the limit, and what is reported beside.
     print(macros, text, width, limits, capacity) {
         const place = this.room(STRUCTS + macros.length + text.length + capacity);
         const bounds = place + REPORT.size, options = bounds + LIMITS.size;
@@ -85,9 +85,9 @@ export class Nulbiko {
         for (const name of ["bold", "long_page", "mdoc", "tables"]) view.setUint8(options + OPTIONS[name], name !== "bold");
         const outcome = this.exports.nulbiko_document(bounds, options, input, text.length, output, capacity, place);
         view = new DataView(this.exports.memory.buffer);
-        const told = (field) => Number(view.getBigUint64(place + REPORT[field], true));
+        const reported = (field) => Number(view.getBigUint64(place + REPORT[field], true));
         const bytes = new Uint8Array(view.buffer).slice(output, output + view.getUint32(place + REPORT.written, true));
         return [outcome, view.getUint32(place + REPORT.limit, true),
-            { bytes, at: told("at"), line: told("line"), moves: told("moves"), dropped: told("dropped") }];
+            { bytes, at: reported("at"), line: reported("line"), moves: reported("moves"), dropped: reported("dropped") }];
     }
 }

@@ -186,7 +186,7 @@ def tbl(text, width=78, table=None):
 
 
 def format(text, limits=LIMITS, first=1, bold=False):
-    """Formats a text, as nroff does. Macro files stand at its front; the first page has this number.
+    """Formats a text, as nroff does. Macro files stand at its beginning; the first page has this number.
 
     With `bold` each cell but a blank is shown as it looks, by backspaces; else letters and digits of ASCII are underlined.
     The limits are those of `LIMITS`, each with a number: {**nulbiko.LIMITS, 'moves': 10**8}.

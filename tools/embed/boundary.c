@@ -34,7 +34,7 @@ static bool nothing_done(void)
            !report.line;
 }
 
-/* The report is as it was prepared, behind its size. */
+/* The report is as it was prepared, after its size. */
 static bool report_untouched(void)
 {
     const unsigned char *bytes = (const unsigned char *)&report;
@@ -51,7 +51,7 @@ static void prepare(void)
     report.size = sizeof report;
 }
 
-/* What went out is this and nothing behind it. */
+/* What went out is this and nothing after it. */
 static bool put_out(const char *wanted)
 {
     size_t length = strlen(wanted);
@@ -222,11 +222,11 @@ static void names(void)
     judge("names of what is wrong", are_names(nulbiko_wrong_name, NULBIKO_UNSET_REQUEST + 1, "request not set in a text block"));
 }
 
-/* Pages that name their coding: two letters of KOI8-R behind it; one that is no coding before a letter of UTF-8. */
+/* Pages that name their coding: two letters of KOI8-R after it; one that is no coding before a letter of UTF-8. */
 static const char coded[] = ".\\\" -*- coding: koi8-r -*-\n\xc4\xc1\n";
 static const char unknown[] = ".\\\" -*- coding: nonesuch -*-\n\xc3\xa4\n";
 
-/* What went out behind so many bytes is this, once utf8 turns it back. */
+/* What went out after so many bytes is this, once utf8 turns it back. */
 static bool turned_back(size_t before, const char *wanted, enum nulbiko_table table)
 {
     static char shown[1 << 8];

@@ -63,7 +63,7 @@ fn made(
     }
 }
 
-/// What was made, where nothing of tables is told.
+/// What was made, where nothing of tables is reported.
 fn plain((bytes, report): (Vec<u8>, Report)) -> Made {
     Made { bytes, moves: report.moves, wrong: None, dropped: report.dropped }
 }
@@ -143,9 +143,9 @@ pub fn preconv(table: Option<Table>, text: &[u8]) -> Result<Made, Stopped> {
 /// As [`mdoc()`].
 pub fn tbl(table: Option<Table>, line: usize, text: &[u8]) -> Result<Made, Stopped> {
     let number = table.map_or(0, |table| table as u32);
-    let (bytes, told) =
+    let (bytes, reported) =
         made("tbl", text, |output, report| nulbiko_tbl_lent(Global, number, line, text, output, report))?;
-    Ok(Made { bytes, moves: 0, wrong: Wrong::numbered(told.limit).map(|wrong| (wrong, told.at)), dropped: 0 })
+    Ok(Made { bytes, moves: 0, wrong: Wrong::numbered(reported.limit).map(|wrong| (wrong, reported.at)), dropped: 0 })
 }
 
 /// Formats a text, as nroff does. Macro files, as [`MAN`](crate::MAN), stand at its front: it opens no file. The first page has

@@ -4,7 +4,7 @@ mod names;
 mod structs;
 
 use kit::alloc::Global;
-use nulbiko_lent::Report as Told;
+use nulbiko_lent::Report as Reported;
 use nulbiko_lent::document::nulbiko_document_lent;
 use nulbiko_lent::formatting::nulbiko_format_lent;
 use nulbiko_lent::mdoc::nulbiko_mdoc_lent;
@@ -33,7 +33,7 @@ impl Passed {
     /// # Safety
     ///
     /// Each pointer is null or leads to as much as C said, and nothing else is in use of it.
-    unsafe fn call(&self, run: impl FnOnce(&[u8], &mut [u8], &mut Told) -> u32) -> u32 {
+    unsafe fn call(&self, run: impl FnOnce(&[u8], &mut [u8], &mut Reported) -> u32) -> u32 {
         if self.report.is_null() {
             return NULL;
         }
@@ -41,7 +41,7 @@ impl Passed {
         if unsafe { (&raw const (*self.report).size).read() } != size_of::<Report>() {
             return OUT_OF_RANGE;
         }
-        let mut told = NOTHING;
+        let mut reported = NOTHING;
         let outcome = if (self.input.is_null() && self.length > 0) || (self.output.is_null() && self.capacity > 0) {
             NULL
         } else if self.length > isize::MAX as usize {
@@ -52,10 +52,10 @@ impl Passed {
             let capacity = self.capacity.min(isize::MAX as usize);
             let output =
                 if capacity == 0 { &mut [][..] } else { unsafe { from_raw_parts_mut(self.output, capacity) } };
-            run(input, output, &mut told)
+            run(input, output, &mut reported)
         };
         // Sound: its size is that of a report.
-        unsafe { self.report.write(Report::of(&told)) };
+        unsafe { self.report.write(Report::of(&reported)) };
         outcome
     }
 }
@@ -93,7 +93,7 @@ pub unsafe extern "C" fn nulbiko_document(
         }
         let macros = if macros_length == 0 { &[][..] } else { from_raw_parts(macros, macros_length) };
         let setup = options.under(limits);
-        passed.call(|page, output, told| nulbiko_document_lent(Global, &setup, macros, page, output, told))
+        passed.call(|page, output, reported| nulbiko_document_lent(Global, &setup, macros, page, output, reported))
     }
 }
 
@@ -121,7 +121,7 @@ pub unsafe extern "C" fn nulbiko_format(
         let (Some(limits), Some(options)) = (Limits::read(limits), Options::read(options)) else {
             return passed.call(|_, _, _| OUT_OF_RANGE);
         };
-        passed.call(|input, output, told| nulbiko_format_lent(Global, &limits, &options, input, output, told))
+        passed.call(|input, output, reported| nulbiko_format_lent(Global, &limits, &options, input, output, reported))
     }
 }
 
@@ -140,7 +140,7 @@ pub unsafe extern "C" fn nulbiko_preconv(
     report: *mut Report,
 ) -> u32 {
     let passed = Passed { input, length, output, capacity, report };
-    unsafe { passed.call(|input, output, told| nulbiko_preconv_lent(Global, table, input, output, told)) }
+    unsafe { passed.call(|input, output, reported| nulbiko_preconv_lent(Global, table, input, output, reported)) }
 }
 
 /// Turns a page of mdoc(7) into one of man(7).
@@ -157,7 +157,7 @@ pub unsafe extern "C" fn nulbiko_mdoc(
     report: *mut Report,
 ) -> u32 {
     let passed = Passed { input, length, output, capacity, report };
-    unsafe { passed.call(|input, output, told| nulbiko_mdoc_lent(Global, input, output, told)) }
+    unsafe { passed.call(|input, output, reported| nulbiko_mdoc_lent(Global, input, output, reported)) }
 }
 
 /// Turns tables into the language of `nulbiko_format`.
@@ -176,7 +176,7 @@ pub unsafe extern "C" fn nulbiko_tbl(
     report: *mut Report,
 ) -> u32 {
     let passed = Passed { input, length, output, capacity, report };
-    unsafe { passed.call(|input, output, told| nulbiko_tbl_lent(Global, table, line, input, output, told)) }
+    unsafe { passed.call(|input, output, reported| nulbiko_tbl_lent(Global, table, line, input, output, reported)) }
 }
 
 /// Turns bytes of a table into its characters.
@@ -195,7 +195,7 @@ pub unsafe extern "C" fn nulbiko_utf8(
     report: *mut Report,
 ) -> u32 {
     let passed = Passed { input, length, output, capacity, report };
-    unsafe { passed.call(|input, output, told| nulbiko_utf8_lent(Global, table, escapes, input, output, told)) }
+    unsafe { passed.call(|input, output, reported| nulbiko_utf8_lent(Global, table, escapes, input, output, reported)) }
 }
 
 /// The table that a page takes.

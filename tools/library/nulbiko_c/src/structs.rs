@@ -1,9 +1,9 @@
 //! The structs of include/nulbiko.h, each with its size in front.
 
-use nulbiko_lent::{DocumentOptions as Lent, DocumentSetup, Report as Told, TableLimits, TextLimits, TextOptions};
+use nulbiko_lent::{DocumentOptions as Lent, DocumentSetup, Report as Reported, TableLimits, TextLimits, TextOptions};
 
-/// Nothing is told.
-pub(crate) const NOTHING: Told = Told { written: 0, at: 0, moves: 0, limit: 0, dropped: 0, line: 0 };
+/// Nothing is reported.
+pub(crate) const NOTHING: Reported = Reported { written: 0, at: 0, moves: 0, limit: 0, dropped: 0, line: 0 };
 
 /// What a text may cost.
 #[repr(C)]
@@ -117,16 +117,16 @@ pub struct Report {
 }
 
 impl Report {
-    /// A report of what was told.
-    pub(crate) fn of(told: &Told) -> Report {
+    /// A report of what was reported.
+    pub(crate) fn of(reported: &Reported) -> Report {
         Report {
             size: size_of::<Report>(),
-            written: told.written,
-            at: told.at,
-            moves: told.moves,
-            limit: told.limit,
-            dropped: told.dropped,
-            line: told.line,
+            written: reported.written,
+            at: reported.at,
+            moves: reported.moves,
+            limit: reported.limit,
+            dropped: reported.dropped,
+            line: reported.line,
         }
     }
 }
