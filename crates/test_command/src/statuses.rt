@@ -4,7 +4,6 @@
 use nr_command::run_over;
 use nr_engine::{CountedAlloc, Desk, Limits, Options, ToWriter};
 use nr_units::fakes::{Script, Slate};
-use std::alloc::Global;
 use std::process::Abort;
 use std::test::Fail;
 
@@ -33,8 +32,7 @@ const FIRST_PAGE: (usize, usize) = (77, 11);
 
 /// Runs over the input, and looks at the status, at what was printed and at the line.
 fn expect(
-    rt: &impl Abort,
-    alloc: Global,
+    rt: &(impl Abort + AllocGlobal),
     input: &mut Script<'_>,
     output: &mut Slate<'_>,
     status: u8,
@@ -42,7 +40,7 @@ fn expect(
     line: &[u8],
 ) {
     let limits = Limits::new(1024, 4, 100, 10, 1_000_000).unwrap();
-    let desk = Desk::new(&mut CountedAlloc::new(alloc), limits);
+    let desk = Desk::new(&mut CountedAlloc::new(rt.alloc()), limits);
     assert!(rt; desk.is_ok());
     let mut out = [0; 80];
     let mut errors = Slate::over(&mut out);
@@ -60,12 +58,12 @@ fn writer_at_every_byte(rt: HostRuntime) {
         let mut output = Slate::over(&mut room[..taken]);
         let mut input = Script::new(TITLED);
         let printed = &PAGES[..taken];
-        expect(&rt, rt.alloc(), &mut input, &mut output, 4, printed, line);
+        expect(&rt, &mut input, &mut output, 4, printed, line);
     }
     let mut room = [0; 21];
     let mut output = Slate::over(&mut room);
     let mut input = Script::new(TITLED);
-    expect(&rt, rt.alloc(), &mut input, &mut output, 0, PAGES, b"");
+    expect(&rt, &mut input, &mut output, 0, PAGES, b"");
 }
 
 #[test]
@@ -74,7 +72,7 @@ fn writer_in_the_second_page(rt: HostRuntime) {
     let mut room = [0; 3];
     let mut output = Slate::over(&mut room);
     let mut input = Script::new(b".pl 1\na\n.br\nb\n.br\n");
-    expect(&rt, rt.alloc(), &mut input, &mut output, 4, b"a\nb", line);
+    expect(&rt, &mut input, &mut output, 4, b"a\nb", line);
 }
 
 // The first page is out where the line after it was read.
@@ -89,7 +87,7 @@ fn reader_at_every_byte(rt: HostRuntime) -> Result<(), Fail> {
         let printed = &PAGES[..printed];
         let line = format!(in rt.alloc(); "nroff: read fault at byte {given}\n")?;
         let line = line.as_bytes();
-        expect(&rt, rt.alloc(), &mut input, &mut output, 3, printed, line);
+        expect(&rt, &mut input, &mut output, 3, printed, line);
     }
     Ok(())
 }
@@ -101,7 +99,7 @@ fn flush_fault_alone(rt: HostRuntime) {
     let mut output = Slate::failing_flush(&mut room);
     let mut input = Script::new(TITLED);
     let line = b"nroff: write fault\n";
-    expect(&rt, rt.alloc(), &mut input, &mut output, 4, PAGES, line);
+    expect(&rt, &mut input, &mut output, 4, PAGES, line);
     assert_eq!(rt; (output.failed_puts(), output.failed_flushes()), (0, 1));
 }
 
