@@ -54,12 +54,21 @@ pub(crate) fn passes<R: Files + AllocGlobal + Print>(
         .ok_or(anyhow::anyhow!("no end: {line}"))?;
     let (name, words) = run.split_once(' ').unwrap_or((run, ""));
     let limits = limits_of(words)?;
+    let example = Example { name, limits, end };
     let mut buffer = [0u8; 4096];
-    let whole = gives(rt, desk, turner, name, limits, end, &mut buffer)?;
+    let whole = gives(rt, desk, turner, example, &mut buffer)?;
     if !whole {
         return Ok(false);
     }
-    gives(rt, desk, turner, name, limits, end, &mut buffer[..1])
+    gives(rt, desk, turner, example, &mut buffer[..1])
+}
+
+/// An example: its name, the limits that it sets, and how it ends.
+#[derive(Clone, Copy)]
+struct Example<'a> {
+    name: &'a str,
+    limits: Bounds,
+    end: &'a str,
 }
 
 /// The limits on formats and on a row, the length of the line, and the table of characters.
@@ -103,11 +112,10 @@ fn gives<R: Files + AllocGlobal + Print>(
     rt: &R,
     desk: &mut Desk,
     turner: &mut Turner,
-    name: &str,
-    limits: Bounds,
-    end: &str,
+    example: Example<'_>,
     buffer: &mut [u8],
 ) -> anyhow::Result<bool> {
+    let Example { name, limits, end } = example;
     if limits.formats > USUAL || limits.row > USUAL {
         anyhow::bail!("limits out of range: {name}");
     }
