@@ -212,7 +212,7 @@ impl Reader {
     }
 
     /// Whether a cell goes out as its byte.
-    #[inline]
+    #[inline(always)]
     fn passes(&self, cell: Cell) -> bool
         ensures { result ≡ passes self.now cell }
     {
@@ -223,7 +223,7 @@ impl Reader {
     }
 
     /// Whether a cell is the first half of a pair, which waits for the other one.
-    #[inline]
+    #[inline(always)]
     fn holds(&self, cell: Cell, table: &Table<'_>) -> bool
         ensures { result ≡ holds table.now self.now cell }
     {
@@ -231,7 +231,7 @@ impl Reader {
     }
 
     /// A cell goes out, or waits for the other half of its pair: at most 99 bytes.
-    #[inline]
+    #[inline(always)]
     fn put_cell(&mut self, cell: Cell, table: &Table<'_>, out: &mut SliceVec<'_, u8>)
         requires { length out.old.items + 99 ≤ out.old.capacity }
         ensures items { out.new.items ≡ out.old.items ++ drawn_all self.old.way (specs.letters_of table.now self.old.lead cell) }
@@ -260,7 +260,7 @@ impl Reader {
     }
 
     /// A byte comes, and nothing of a cell is read: at most 99 bytes go out.
-    #[inline]
+    #[inline(always)]
     fn begin(&mut self, byte: u8, table: &Table<'_>, out: &mut SliceVec<'_, u8>)
         requires { length out.old.items + 99 ≤ out.old.capacity }
         ensures items { out.new.items ≡ out.old.items ++ begun_said table.now byte self.old }
@@ -277,7 +277,7 @@ impl Reader {
     }
 
     /// A byte comes after another: at most 198 bytes go out.
-    #[inline]
+    #[inline(always)]
     fn go_on(&mut self, held: u8, byte: u8, table: &Table<'_>, out: &mut SliceVec<'_, u8>)
         requires { length out.old.items + 198 ≤ out.old.capacity }
         ensures items { out.new.items ≡ out.old.items ++ next_said table.now held byte self.old }

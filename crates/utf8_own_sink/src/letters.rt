@@ -54,7 +54,7 @@ fn is_same(first: Look, second: Look) -> bool
 }
 
 /// Puts a character: at most 4 bytes.
-#[inline]
+#[inline(always)]
 fn put_character(character: char, out: &mut SliceVec<'_, u8>)
     requires { length out.old.items + 4 ≤ out.old.capacity }
     ensures items { out.new.items ≡ out.old.items ++ encode_utf8 character }
@@ -67,7 +67,7 @@ fn put_character(character: char, out: &mut SliceVec<'_, u8>)
 }
 
 /// Puts a mark, if it is one: at most 4 bytes.
-#[inline]
+#[inline(always)]
 fn put_mark(mark: char, out: &mut SliceVec<'_, u8>)
     requires { length out.old.items + 4 ≤ out.old.capacity }
     ensures items { out.new.items ≡ out.old.items ++ specs.mark_text mark }
@@ -80,7 +80,7 @@ fn put_mark(mark: char, out: &mut SliceVec<'_, u8>)
 }
 
 /// Puts a letter and its marks: at most 16 bytes.
-#[inline]
+#[inline(always)]
 fn put_text(cluster: &Cluster, out: &mut SliceVec<'_, u8>)
     requires { length out.old.items + 16 ≤ out.old.capacity }
     ensures items { out.new.items ≡ out.old.items ++ specs.text_of cluster.now }
@@ -94,7 +94,7 @@ fn put_text(cluster: &Cluster, out: &mut SliceVec<'_, u8>)
 }
 
 /// Whether a cluster is no control character but a newline.
-#[inline]
+#[inline(always)]
 fn is_shown(cluster: &Cluster) -> bool
     ensures { result ≡ specs.is_shown cluster.now }
 {
@@ -103,7 +103,7 @@ fn is_shown(cluster: &Cluster) -> bool
 }
 
 /// How a cluster looks: a blank and a newline are plain.
-#[inline]
+#[inline(always)]
 fn look_of(cluster: &Cluster, look: Look) -> Look
     ensures { result ≡ specs.look_of cluster.now look }
 {
@@ -159,7 +159,7 @@ impl Way {
     }
 
     /// Whether what is plain goes out as it is.
-    #[inline]
+    #[inline(always)]
     pub(crate) fn is_plain(self) -> bool
         ensures { result ≡ specs.is_plain self }
     {
@@ -170,7 +170,7 @@ impl Way {
     }
 
     /// Puts what stands before a cluster that looks so, and tells the way after it: at most 17 bytes.
-    #[inline]
+    #[inline(always)]
     fn put_before(self, cluster: &Cluster, look: Look, out: &mut SliceVec<'_, u8>) -> Way
         requires { length out.old.items + 17 ≤ out.old.capacity }
         ensures items { out.new.items ≡ out.old.items ++ specs.before self cluster.now look }
@@ -191,7 +191,7 @@ impl Way {
     }
 
     /// Puts a cluster, and tells the way after it: at most 33 bytes.
-    #[inline]
+    #[inline(always)]
     pub(crate) fn put_letter(self, cluster: &Cluster, look: Look, out: &mut SliceVec<'_, u8>) -> Way
         requires { length out.old.items + 33 ≤ out.old.capacity }
         ensures items { out.new.items ≡ out.old.items ++ specs.drawn self (specs.letter cluster.now look) }
