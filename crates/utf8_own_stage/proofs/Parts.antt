@@ -6,15 +6,15 @@ use Rattle.utf8_own_characters.specs.Table.{Characters}
 use Rattle.utf8_own_stage.specs.declared.points.Place.{Place}
 use Rattle.utf8_own_stage.specs.Coding.{said, said_of, said_last, place_after, place_after_all, coding}
 
-after-append : (l : Listener) (xs ys : List ℕ) → after l (xs ++ ys) ≡ after (after l xs) ys
+pub after-append : (l : Listener) (xs ys : List ℕ) → after l (xs ++ ys) ≡ after (after l xs) ys
 after-append l [] ys = refl
 after-append l (x ∷ xs) ys = after-append (read l x).listener xs ys
 
-place-append : (l : Listener) (p : Place) (xs ys : List ℕ) → place_after_all l p (xs ++ ys) ≡ place_after_all (after l xs) (place_after_all l p xs) ys
+pub place-append : (l : Listener) (p : Place) (xs ys : List ℕ) → place_after_all l p (xs ++ ys) ≡ place_after_all (after l xs) (place_after_all l p xs) ys
 place-append l p [] ys = refl
 place-append l p (x ∷ xs) ys = place-append (read l x).listener (place_after p (read l x)) xs ys
 
-said-append : (t : Characters) (l : Listener) (p : Place) (xs ys : List ℕ)
+pub said-append : (t : Characters) (l : Listener) (p : Place) (xs ys : List ℕ)
     → said_of t l p (xs ++ ys) ≡ said_of t l p xs ++ said_of t (after l xs) (place_after_all l p xs) ys
 said-append t l p [] ys = refl
 said-append t l p (x ∷ xs) ys =

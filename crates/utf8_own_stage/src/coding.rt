@@ -1,6 +1,6 @@
 //! What stands for a cluster in a page's own table, and the points between clusters.
-ghost use Rattle.std.specs.Prelude.{◌≡◌, ◌+◌, ◌*◌, ◌≤◌, ◌++◌, length};
-ghost use Rattle.utf8_own_characters.specs.Listening.{after};
+ghost use Rattle.std.specs.Prelude.{◌≡◌, ◌+◌, ◌*◌, ◌<◌, ◌≤◌, ◌++◌, length, take, true};
+ghost use Rattle.utf8_own_characters.specs.Listening.{after, read};
 ghost use Rattle.utf8_own_characters.specs.Table.{Good};
 ghost use Rattle.utf8_own_stage.specs.Coding as specs;
 ghost use Rattle.utf8_own_stage.specs.Points.{left, passed, point, text_of};
@@ -8,12 +8,13 @@ ghost use Rattle.utf8_own_stage.specs.Points.{left, passed, point, text_of};
 use super::points::{Place, Point};
 use nr_vectors::slice_vec::SliceVec;
 use preconv_converter::{Target, put_likeness};
-use utf8_own_characters::{Cluster, Code, Listened, Listener, Table};
+use utf8_own_characters::{Cluster, Code, Listened, Listener, Table, is_mark};
 
 /// The most bytes of what comes of one that is read.
 pub(crate) const MOST: usize = 32;
 
 /// Puts the bytes of a cluster, or what its letter looks like where the table lacks it: at most 21 bytes.
+#[inline(always)]
 fn put_cluster(cluster: &Cluster, table: &Table<'_>, out: &mut SliceVec<'_, u8>)
     requires good { Good table.now }
     requires room { length out.old.items + 24 ≤ out.old.capacity }
@@ -29,7 +30,7 @@ fn put_cluster(cluster: &Cluster, table: &Table<'_>, out: &mut SliceVec<'_, u8>)
 }
 
 /// Puts what goes out before a character: at most 5 bytes.
-#[inline]
+#[inline(always)]
 fn put_point(place: &Place, character: char, out: &mut SliceVec<'_, u8>)
     requires room { length out.old.items + 5 ≤ out.old.capacity }
     ensures items { out.new.items ≡ out.old.items ++ text_of (point place.now character) }
@@ -45,6 +46,7 @@ fn put_point(place: &Place, character: char, out: &mut SliceVec<'_, u8>)
 }
 
 /// Puts a cluster, if there is one, after what goes out before it: at most 26 bytes.
+#[inline(always)]
 fn put_done(
     cluster: Option<Cluster>,
     place: &mut Place,
@@ -68,7 +70,7 @@ fn put_done(
 }
 
 /// Puts a byte, if there is one, after what goes out before it: at most 6 bytes.
-#[inline]
+#[inline(always)]
 fn put_byte(byte: Option<u8>, place: &mut Place, out: &mut SliceVec<'_, u8>)
     requires room { length out.old.items + 6 ≤ out.old.capacity }
     ensures items { out.new.items ≡ out.old.items ++ specs.said_byte place.old byte }
@@ -87,22 +89,162 @@ fn put_byte(byte: Option<u8>, place: &mut Place, out: &mut SliceVec<'_, u8>)
 }
 
 /// Puts what comes of a byte: at most 32 bytes.
-#[inline]
+#[inline(always)]
 fn put_listened(
-    listened: &Listened,
+    listened: Listened,
     place: &mut Place,
     table: &Table<'_>,
     out: &mut SliceVec<'_, u8>,
 )
     requires good { Good table.now }
     requires room { length out.old.items + 32 ≤ out.old.capacity }
-    ensures items { out.new.items ≡ out.old.items ++ specs.said table.now place.old listened.now }
-    ensures place { place.new ≡ specs.place_after place.old listened.now }
+    ensures items { out.new.items ≡ out.old.items ++ specs.said table.now place.old listened }
+    ensures place { place.new ≡ specs.place_after place.old listened }
     ensures few { length out.new.items ≤ length out.old.items + 32 }
     ensures room { out.new.capacity ≡ out.old.capacity }
 {
     put_done(listened.done, place, table, out);
     put_byte(listened.byte, place, out);
+}
+
+/// Whether the first of these bytes begins a character of three, and the others go one on.
+#[inline(always)]
+fn is_three(a: u8, b: u8, c: u8) -> bool
+    ensures { result ≡ specs.is_three a b c }
+{
+    matches!(a, 0xE0..=0xEF) && matches!(b, 0x80..=0xBF) && matches!(c, 0x80..=0xBF)
+}
+
+/// Whether three such bytes are a letter: no mark, and no sign that shows nothing.
+#[inline(always)]
+fn are_letter(a: u8, b: u8, c: u8) -> bool {
+    let code = u32::from(a % 16) * 4_096 + u32::from(b % 64) * 64 + u32::from(c % 64);
+    if code < 0x2070 || code == 0xFEFF {
+        return false;
+    }
+    match char::from_u32(code) {
+        Some(character) => !is_mark(character),
+        None => false,
+    }
+}
+
+/// Whether these bytes begin with a letter of three, which can be put at once.
+#[inline(always)]
+fn begins_letter(bytes: &[u8]) -> bool
+    ensures long { result ≡ true → 3 ≤ length bytes.now }
+    ensures three { result ≡ true → specs.begins_three bytes.now ≡ true }
+{
+    bytes.len() >= 3
+        && is_three(bytes[0], bytes[1], bytes[2])
+        && are_letter(bytes[0], bytes[1], bytes[2])
+}
+
+/// Puts what comes of the first of these bytes.
+#[inline(always)]
+fn put_one(
+    bytes: &[u8],
+    listener: &mut Listener,
+    place: &mut Place,
+    table: &Table<'_>,
+    out: &mut SliceVec<'_, u8>,
+)
+    requires good { Good table.now }
+    requires some { 0 < length bytes.now }
+    requires room { length out.old.items + 32 ≤ out.old.capacity }
+    ensures items { out.new.items ≡ out.old.items ++ specs.said_of table.now listener.old place.old (take 1 bytes.now) }
+    ensures few { length out.new.items ≤ length out.old.items + 32 }
+    ensures listener { listener.new ≡ after listener.old (take 1 bytes.now) }
+    ensures place { place.new ≡ specs.place_after_all listener.old place.old (take 1 bytes.now) }
+    ensures room { out.new.capacity ≡ out.old.capacity }
+{
+    let listened = listener.read(bytes[0]);
+    put_listened(listened, place, table, out);
+    *listener = listened.listener;
+}
+
+/// The same, of a byte that is neither of ASCII nor the first of a letter.
+#[inline(never)]
+fn put_other(
+    bytes: &[u8],
+    listener: &mut Listener,
+    place: &mut Place,
+    table: &Table<'_>,
+    out: &mut SliceVec<'_, u8>,
+)
+    requires good { Good table.now }
+    requires some { 0 < length bytes.now }
+    requires room { length out.old.items + 32 ≤ out.old.capacity }
+    ensures items { out.new.items ≡ out.old.items ++ specs.said_of table.now listener.old place.old (take 1 bytes.now) }
+    ensures few { length out.new.items ≤ length out.old.items + 32 }
+    ensures listener { listener.new ≡ after listener.old (take 1 bytes.now) }
+    ensures place { place.new ≡ specs.place_after_all listener.old place.old (take 1 bytes.now) }
+    ensures room { out.new.capacity ≡ out.old.capacity }
+{
+    put_one(bytes, listener, place, table, out);
+}
+
+/// What comes of the last of three bytes.
+#[inline(always)]
+fn read_three(listener: Listener, a: u8, b: u8, c: u8) -> Listened
+    ensures { result ≡ read (read (read listener a).listener b).listener c }
+{
+    listener.read(a).listener.read(b).listener.read(c)
+}
+
+/// Puts what comes of the letter of three bytes that these begin with: of the first two comes nothing.
+#[inline(always)]
+fn put_letter(
+    bytes: &[u8],
+    listener: &mut Listener,
+    place: &mut Place,
+    table: &Table<'_>,
+    out: &mut SliceVec<'_, u8>,
+)
+    requires good { Good table.now }
+    requires long { 3 ≤ length bytes.now }
+    requires three { specs.begins_three bytes.now ≡ true }
+    requires room { length out.old.items + 32 ≤ out.old.capacity }
+    ensures items { out.new.items ≡ out.old.items ++ specs.said_of table.now listener.old place.old (take 3 bytes.now) }
+    ensures few { length out.new.items ≤ length out.old.items + 32 }
+    ensures listener { listener.new ≡ after listener.old (take 3 bytes.now) }
+    ensures place { place.new ≡ specs.place_after_all listener.old place.old (take 3 bytes.now) }
+    ensures room { out.new.capacity ≡ out.old.capacity }
+{
+    let listened = read_three(*listener, bytes[0], bytes[1], bytes[2]);
+    put_listened(listened, place, table, out);
+    *listener = listened.listener;
+}
+
+/// Puts what comes of the first of these bytes, or of the letter that they begin with. Tells how many bytes that is.
+#[inline(always)]
+fn put_first(
+    bytes: &[u8],
+    listener: &mut Listener,
+    place: &mut Place,
+    table: &Table<'_>,
+    out: &mut SliceVec<'_, u8>,
+) -> usize
+    requires good { Good table.now }
+    requires some { 0 < length bytes.now }
+    requires room { length out.old.items + 32 ≤ out.old.capacity }
+    ensures items { out.new.items ≡ out.old.items ++ specs.said_of table.now listener.old place.old (take result bytes.now) }
+    ensures few { length out.new.items ≤ length out.old.items + 32 }
+    ensures listener { listener.new ≡ after listener.old (take result bytes.now) }
+    ensures place { place.new ≡ specs.place_after_all listener.old place.old (take result bytes.now) }
+    ensures room { out.new.capacity ≡ out.old.capacity }
+    ensures some { 0 < result }
+    ensures within { result ≤ length bytes.now }
+{
+    if bytes[0] < 128 {
+        put_one(bytes, listener, place, table, out);
+        return 1;
+    }
+    if begins_letter(bytes) {
+        put_letter(bytes, listener, place, table, out);
+        return 3;
+    }
+    put_other(bytes, listener, place, table, out);
+    1
 }
 
 /// Puts what comes of these bytes, one after another.
@@ -121,10 +263,10 @@ pub(crate) fn put_all(
     ensures place { place.new ≡ specs.place_after_all listener.old place.old bytes.now }
     ensures room { out.new.capacity ≡ out.old.capacity }
 {
-    for byte in bytes {
-        let listened = listener.read(*byte);
-        put_listened(&listened, place, table, out);
-        *listener = listened.listener;
+    let mut count = 0;
+    while count < bytes.len() {
+        let more = put_first(&bytes[count..], listener, place, table, out);
+        count += more;
     }
 }
 

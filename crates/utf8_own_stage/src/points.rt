@@ -90,7 +90,7 @@ impl Place {
     }
 
     /// Whether a line may be cut before a character that is printed.
-    #[inline]
+    #[inline(always)]
     fn may_cut(&self, character: char) -> bool
         ensures { result ≡ specs.may_cut self.now character }
     {
@@ -98,7 +98,7 @@ impl Place {
     }
 
     /// What goes out before a character.
-    #[inline]
+    #[inline(always)]
     pub(crate) fn point(&self, character: char) -> Point
         ensures { result ≡ specs.point self.now character }
     {
@@ -144,6 +144,7 @@ impl Place {
     }
 
     /// The line ends. In a table the format ends with a dot, and before a block a row with a brace.
+    #[inline(never)]
     fn ends(&mut self)
         ensures { self.new ≡ specs.line_ended self.old }
     {
@@ -159,6 +160,7 @@ impl Place {
     }
 
     /// The first character of a line. With `T` a block of a table ends.
+    #[inline(never)]
     fn begins(&mut self, character: char)
         ensures { self.new ≡ specs.begun character self.old }
     {
@@ -176,6 +178,7 @@ impl Place {
     }
 
     /// A character of a control line's name, or the blank after it.
+    #[inline(never)]
     fn names(&mut self, character: char)
         ensures { self.new ≡ specs.naming character self.old }
     {
@@ -187,6 +190,7 @@ impl Place {
     }
 
     /// A character after a control character and `T`.
+    #[inline(never)]
     fn names_table(&mut self, character: char)
         ensures { self.new ≡ specs.naming_table character self.old }
     {
@@ -219,6 +223,7 @@ impl Place {
     }
 
     /// A character after a backslash. A font leaves what is printed before it.
+    #[inline(never)]
     fn escapes(&mut self, character: char)
         ensures { self.new ≡ specs.escaping character self.old }
     {
@@ -233,6 +238,7 @@ impl Place {
     }
 
     /// A character of a name in an escape.
+    #[inline(never)]
     fn spells(&mut self, character: char)
         ensures { self.new ≡ specs.spelling character self.old }
     {
@@ -244,7 +250,7 @@ impl Place {
     }
 
     /// A character is read.
-    #[inline]
+    #[inline(always)]
     pub(crate) fn passes(&mut self, character: char)
         ensures { self.new ≡ specs.passed self.old character }
     {
