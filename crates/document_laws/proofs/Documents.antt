@@ -23,7 +23,7 @@ use Rattle.document_laws.proofs.OwnLines.{own-lines-prefix}
 
 -- what the formatter came to, of which that is shown
 record Came (s : Setting) (spelling : Spelling) (source : Supply) (n : ℕ) (outcome : PageEnd) (out : List ℕ) : Type 0 where
-  end : machine.PageEnd
+  end : machine.Outcome
   reported_so : reported end false ≡ outcome
   settled : is_settled source.faults end ≡ true
   ran : Ran s source n end
@@ -82,7 +82,7 @@ done_stays s b spelling source n n' outcome' out out' least r r' =
     record { runs = ran.runs; allowed = ran.allowed; ends = ran.ends; writes = refl; bound = ran.bound } in
     let c' = came (under b s) spelling source n' outcome' out' r' in
     let same = limits_unmet s.limits b s.options source n n' machines.Done c'.end (pages_of s source n) (pages_of (under b s) source n') least answers c'.answers refl refl c'.settled in
-    (same.0, ap (λ (e : machine.PageEnd). reported e false) same.1 ∙ c'.reported_so, r.shows.out ∙ ap (λ (z : List ℕ). shown spelling z) same.2 ∙ sym c'.out_is)
+    (same.0, ap (λ (e : machine.Outcome). reported e false) same.1 ∙ c'.reported_so, r.shows.out ∙ ap (λ (z : List ℕ). shown spelling z) same.2 ∙ sym c'.out_is)
 
 -- ---- one document
 
@@ -91,7 +91,7 @@ one_document s spelling source n n' outcome outcome' out out' r r' =
     let c = came s spelling source n outcome out r in
     let c' = came s spelling source n' outcome' out' r' in
     let same = one_answer s.limits s.options source n n' c.end c'.end (pages_of s source n) (pages_of s source n') c.answers c'.answers c.settled c'.settled in
-    (same.0, sym c.reported_so ∙ ap (λ (e : machine.PageEnd). reported e false) same.1 ∙ c'.reported_so, c.out_is ∙ ap (λ (z : List ℕ). shown spelling z) same.2 ∙ sym c'.out_is)
+    (same.0, sym c.reported_so ∙ ap (λ (e : machine.Outcome). reported e false) same.1 ∙ c'.reported_so, c.out_is ∙ ap (λ (z : List ℕ). shown spelling z) same.2 ∙ sym c'.out_is)
 
 -- ---- moves, and what goes out as it is
 

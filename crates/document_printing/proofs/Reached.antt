@@ -32,7 +32,7 @@ use Rattle.document_printing.specs.Laws.{IsPrefixOfText, is_whole}
 prefixes : (held new : Option (List ℕ)) (bytes : List ℕ) → Appends held new bytes → AppendsPrefix held new bytes
 prefixes held new bytes out = (bytes, [], sym (append-nil bytes), out)
 
-shows_goes : (s : Setting) (source : Supply) (n : ℕ) (ended : machine.PageEnd) (held new : Option (List ℕ)) → GoesOut s source n ended held new → IsShown s Bytes source n ended held new
+shows_goes : (s : Setting) (source : Supply) (n : ℕ) (ended : machine.Outcome) (held new : Option (List ℕ)) → GoesOut s source n ended held new → IsShown s Bytes source n ended held new
 shows_goes s source n ended held new g = record { ran = g.ran; out = g.out }
 
 pub shows-bytes : (s : Setting) (source : Supply) (n : ℕ) (o : PageEnd) (held new : Option (List ℕ)) → Prints s source n o held new → Shows s Bytes source n o held new

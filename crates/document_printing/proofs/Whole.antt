@@ -28,12 +28,12 @@ next_prefix s held new b =
     (AppendsPrefix-after held b.between new (text s.pages) (bytes_of b.page) b.ended b.prefix)
 
 -- the moves that the formatter made
-ran : (s : Setting) (source : Supply) (n : ℕ) (ended : machine.PageEnd) (held new : Option (List ℕ))
+ran : (s : Setting) (source : Supply) (n : ℕ) (ended : machine.Outcome) (held new : Option (List ℕ))
     → Answers s.limits (start s.limits s.options source) n ended held new → Ran s source n ended
 ran s source n ended held new a = record { runs = a.runs; allowed = a.allowed; ends = a.ends; bound = a.bound }
 
 -- what the formatter answered is how the document ends
-pub prints-of : (s : Setting) (source : Supply) (n : ℕ) (ended : machine.PageEnd) (full : Bool) (held new : Option (List ℕ))
+pub prints-of : (s : Setting) (source : Supply) (n : ℕ) (ended : machine.Outcome) (full : Bool) (held new : Option (List ℕ))
     → (full ≡ true → s.sets ≡ true) → Answers s.limits (start s.limits s.options source) n ended held new → Prints s source n (reported ended full) held new
 prints-of s source n machines.Done full held new sets a = record { ran = ran s source n machines.Done held new a; out = a.writes }
 prints-of s source n (machines.Limit which at) full held new sets a = record { ran = ran s source n (machines.Limit which at) held new a; out = a.writes }
@@ -43,7 +43,7 @@ prints-of s source n machines.TooLong full held new sets a = a.writes
 prints-of s source n machines.WriteFault full held new sets a = next_prefix (state_after n (start s.limits s.options source)) held new a.writes
 
 -- over macros and a text of the page whose tables are set, or not
-pub prints-read : (s : Setting) (sets : Bool) (page : Supply) (n : ℕ) (ended : machine.PageEnd) (full : Bool) (held new : Option (List ℕ))
+pub prints-read : (s : Setting) (sets : Bool) (page : Supply) (n : ℕ) (ended : machine.Outcome) (full : Bool) (held new : Option (List ℕ))
     → s.sets ≡ sets → (full ≡ true → sets ≡ true)
     → Answers s.limits (start s.limits s.options (preceded s.macros (tables_of sets s.tables page))) n ended held new
     → Prints s (read_after s page) n (reported ended full) held new
@@ -60,7 +60,7 @@ prints-at s source n m o p held new moves outcome prints =
 
 -- ---- faults of the output
 
-tells : (ended : machine.PageEnd) (full : Bool) (before after : SinkFailures) → after ≡ put_counted_if (run.is_write_fault ended) before
+tells : (ended : machine.Outcome) (full : Bool) (before after : SinkFailures) → after ≡ put_counted_if (run.is_write_fault ended) before
     → TellsWrites (reported ended full) before.puts after.puts
 tells machines.Done full before after failed = ap (λ (f : SinkFailures). f.puts) failed
 tells (machines.Limit which at) full before after failed = ap (λ (f : SinkFailures). f.puts) failed
@@ -69,7 +69,7 @@ tells (machines.ReadFault at) false before after failed = tt
 tells machines.TooLong full before after failed = tt
 tells machines.WriteFault full before after failed = ap (λ (f : SinkFailures). f.puts) failed
 
-pub tells-of : (ended : machine.PageEnd) (full : Bool) (o : PageEnd) (before after : SinkFailures) → o ≡ reported ended full
+pub tells-of : (ended : machine.Outcome) (full : Bool) (o : PageEnd) (before after : SinkFailures) → o ≡ reported ended full
     → after ≡ put_counted_if (run.is_write_fault ended) before → TellsWrites o before.puts after.puts
 tells-of ended full o before after is failed =
     subst (λ (x : PageEnd). TellsWrites x before.puts after.puts) (sym is) (tells ended full before after failed)

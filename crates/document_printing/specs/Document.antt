@@ -63,14 +63,14 @@ pages_of s source n = text (state_of s source n).pages
 -- ---- what goes out
 
 -- The machine makes so many moves, as many as are allowed and as the bytes that it took allow at most, and ends so.
-pub record Ran (s : Setting) (source : Supply) (n : ℕ) (ended : machine.PageEnd) : Type 0 where
+pub record Ran (s : Setting) (source : Supply) (n : ℕ) (ended : machine.Outcome) : Type 0 where
   pub runs : Runs n (start s.limits s.options source)
   pub allowed : n ≤ s.limits.moves
   pub ends : Ends s.limits.moves n (state_of s source n) ended
   pub bound : n ≤ moves_a_byte s.limits * ((state_of s source n).coming.taken + 1)
 
 -- and what it printed until then went out
-pub record GoesOut (s : Setting) (source : Supply) (n : ℕ) (ended : machine.PageEnd) (held new : Option (List ℕ))
+pub record GoesOut (s : Setting) (source : Supply) (n : ℕ) (ended : machine.Outcome) (held new : Option (List ℕ))
     : Type 0 where
   pub ran : Ran s source n ended
   pub out : Appends held new (pages_of s source n)
@@ -106,7 +106,7 @@ setting_of setup tables limits = record {
 }
 
 -- how the formatter's end is reported of a page whose tables have no room, or have
-abbrev pub reported : machine.PageEnd → Bool → PageEnd
+abbrev pub reported : machine.Outcome → Bool → PageEnd
 reported machines.Done full = outcomes.Done
 reported (machines.Limit which at) full = outcomes.Limit which at
 reported (machines.ReadFault at) true = outcomes.NoRoom

@@ -30,7 +30,7 @@ abbrev pub document : Setting → Spelling → Supply → ℕ → List ℕ
 document s spelling source n = shown spelling (pages_of s source n)
 
 -- the machine ends so after so many moves, and all that it printed until then is shown
-pub record IsShown (s : Setting) (spelling : Spelling) (source : Supply) (n : ℕ) (ended : machine.PageEnd)
+pub record IsShown (s : Setting) (spelling : Spelling) (source : Supply) (n : ℕ) (ended : machine.Outcome)
     (held new : Option (List ℕ)) : Type 0 where
   pub ran : Ran s source n ended
   pub out : Appends held new (document s spelling source n)

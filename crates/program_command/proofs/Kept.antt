@@ -38,7 +38,7 @@ Keeps-same {S} held a b same = subst (λ (s : S). Keeps (held a) (held s)) (sym 
 AppendsPrefix-kept : (a b c : Option (List ℕ)) (bs : List ℕ) → AppendsPrefix a b bs → Keeps b c → AppendsPrefix a c bs
 AppendsPrefix-kept a b c bs (prefix, rest, is, grown) q = (prefix, rest, is, Appends-kept a b c prefix grown q)
 
-IsShown-kept : (s : Setting) (spelling : Spelling) (source : Supply) (n : ℕ) (ended : machine.PageEnd) (a b c : Option (List ℕ))
+IsShown-kept : (s : Setting) (spelling : Spelling) (source : Supply) (n : ℕ) (ended : machine.Outcome) (a b c : Option (List ℕ))
     → IsShown s spelling source n ended a b → Keeps b c → IsShown s spelling source n ended a c
 IsShown-kept s spelling source n ended a b c shown q = record {
   ran = shown.ran;
