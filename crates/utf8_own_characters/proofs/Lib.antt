@@ -2,6 +2,7 @@ pub mod ChoiceLaws
 pub mod Coding
 pub mod Counted
 pub mod FixedLaws
+pub mod Letters
 pub mod NoneAfter
 pub mod Places
 pub mod Ranked

@@ -27,7 +27,7 @@ alone : (p : Part) (b : ℕ) → b < 128 → decoded p b ≡ record { part = non
 unfolding shape
 alone p b h = shaped p b ∙ ap (λ (x : Bool). shape x (nat_lt b 192) (nat_lt b 224) (nat_lt b 240) (nat_lt b 248) p b) (lt_so b 128 h)
 
-tail : (p : Part) (b : ℕ) → 128 ≤ b → b < 192 → decoded p b ≡ more p b
+pub tail : (p : Part) (b : ℕ) → 128 ≤ b → b < 192 → decoded p b ≡ more p b
 unfolding shape
 tail p b low high =
     shaped p b
@@ -42,7 +42,7 @@ lead_two p b low high =
     ∙ ap (λ (y : Bool). shape false y (nat_lt b 224) (nat_lt b 240) (nat_lt b 248) p b) (lt_not b 192 low)
     ∙ ap (λ (z : Bool). shape false false z (nat_lt b 240) (nat_lt b 248) p b) (lt_so b 224 high)
 
-lead_three : (p : Part) (b : ℕ) → 224 ≤ b → b < 240 → decoded p b ≡ going (b % 16) 2
+pub lead_three : (p : Part) (b : ℕ) → 224 ≤ b → b < 240 → decoded p b ≡ going (b % 16) 2
 unfolding shape
 lead_three p b low high =
     shaped p b

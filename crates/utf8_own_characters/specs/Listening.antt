@@ -1,5 +1,5 @@
 -- The clusters of a text in which escapes stand.
-use Rattle.std.specs.Prelude.{ℕ, ◌%◌, List, [], ◌∷◌, ◌++◌, Bool, true, false, not, ◌==◌, ◌&&◌, ◌||◌, nat_le, nat_lt, if◌then◌else◌, Option, None, Some}
+use Rattle.std.specs.Prelude.{ℕ, ◌%◌, get_or, List, [], ◌∷◌, ◌++◌, Bool, true, false, not, ◌==◌, ◌&&◌, ◌||◌, nat_le, nat_lt, if◌then◌else◌, Option, None, Some}
 use Rattle.utf8_own_characters.specs.declared.cluster.Cluster.{Cluster}
 use Rattle.utf8_own_characters.specs.declared.listening.Listener.{Listener}
 use Rattle.utf8_own_characters.specs.declared.listening.Listened.{Listened}
@@ -62,6 +62,15 @@ heard l (Some c) = hear l c
 
 abbrev pub read : Listener → ℕ → Listened
 read l b = heard (record l { part = (decoded l.part b).part }) (decoded l.part b).character
+
+-- ---- a letter of three bytes
+
+-- the first begins a character of three, and the others go one on
+abbrev pub is_three : ℕ → ℕ → ℕ → Bool
+is_three a b c = is_within 0xE0 0xEF a && is_within 0x80 0xBF b && is_within 0x80 0xBF c
+
+abbrev pub begins_three : List ℕ → Bool
+begins_three bytes = is_three (get_or bytes 0 0) (get_or bytes 1 0) (get_or bytes 2 0)
 
 -- ---- a whole text
 

@@ -99,6 +99,7 @@ fn is_wide(character: char) -> bool
 }
 
 /// Whether a character is an ideograph, kana, or a sign among them.
+#[inline]
 pub fn is_east_asian(character: char) -> bool
     ensures { result ≡ specs.is_east_asian character }
 {
@@ -107,6 +108,7 @@ pub fn is_east_asian(character: char) -> bool
 
 /// Whether a line may be broken between two characters that stand side by side: beside an ideograph, kana or a sign of two columns, where
 /// the first may end a line and the second begin one. Korean is broken at blanks.
+#[inline(always)]
 pub fn may_break_between(before: char, after: char) -> bool
     ensures { result ≡ specs.may_break before after }
 {

@@ -5,7 +5,7 @@ ghost use Rattle.utf8_own_characters.specs.Counting.{count_from, counted_within,
 ghost use Rattle.utf8_own_characters.specs.declared.counting.Count.{Count as Counted};
 
 use super::cluster::Cluster;
-use super::index::{NOWHERE, PROBES, next, put, slot_of};
+use super::index::{NOWHERE, PROBES, first_place, next, put, slot_of};
 use nr_vectors::slice_vec::SliceVec;
 
 /// A cluster, and how often it came.
@@ -75,6 +75,10 @@ fn place_in(counts: &[Count], slots: &[u16], cluster: &Cluster) -> Option<usize>
     requires { is_once counts.now ≡ true }
     ensures { result ≡ count_from 0 counts.now cluster.now }
 {
+    let first = first_place(slots, cluster);
+    if stands(counts, first, cluster) {
+        return Some(first);
+    }
     let place = guess(counts, slots, cluster);
     if stands(counts, place, cluster) {
         return Some(place);

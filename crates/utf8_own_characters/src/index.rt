@@ -40,6 +40,16 @@ fn is_at(narrow: &[Cluster], wide: &[Cluster], place: usize, cluster: &Cluster) 
     place - 128 < wide.len() && wide[place - 128].is_same(cluster)
 }
 
+/// The place in the first slot of a cluster, at which another one may stand.
+#[inline(always)]
+pub(crate) fn first_place(slots: &[u16], cluster: &Cluster) -> usize {
+    if slots.is_empty() {
+        return NOWHERE;
+    }
+    let slot = slot_of(cluster, slots.len());
+    usize::from(slots[slot]).saturating_sub(1)
+}
+
 /// Where a cluster may stand.
 pub(crate) fn guess(
     narrow: &[Cluster],

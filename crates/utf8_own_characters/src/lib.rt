@@ -25,7 +25,7 @@ pub use counting::{Count, count_cluster};
 pub use decoding::{Decoded, Part};
 pub use index::fill_slots;
 pub use joining::{Heard, hear};
-pub use listening::{Listened, Listener};
+pub use listening::{Listened, Listener, begins_letter};
 pub use looking::{end_look, look_at, takes_place};
 pub use ranking::rank;
 pub use reading::Read;

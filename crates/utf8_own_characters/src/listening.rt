@@ -1,5 +1,5 @@
 //! The clusters of a text in which escapes stand, a byte after the other.
-ghost use Rattle.std.specs.Prelude.{◌≡◌};
+ghost use Rattle.std.specs.Prelude.{◌≡◌, ◌≤◌, length, true};
 ghost use Rattle.utf8_own_characters.specs.Listening as specs;
 
 use super::cluster::{Cluster, is_mark};
@@ -60,6 +60,38 @@ fn plain_after(character: char, is_plain: bool) -> bool
         0..=0x20 => true,
         code => is_plain || code >= 128,
     }
+}
+
+/// Whether these are three bytes of which the first begins a character of three, and the others go one on.
+#[inline(always)]
+fn is_three(a: u8, b: u8, c: u8) -> bool
+    ensures { result ≡ specs.is_three a b c }
+{
+    matches!(a, 0xE0..=0xEF) && matches!(b, 0x80..=0xBF) && matches!(c, 0x80..=0xBF)
+}
+
+/// Whether three such bytes are a letter: no mark, and no sign that shows nothing.
+#[inline(always)]
+fn are_letter(a: u8, b: u8, c: u8) -> bool {
+    let code = u32::from(a % 16) * 4_096 + u32::from(b % 64) * 64 + u32::from(c % 64);
+    if code < 0x2070 || code == 0xFEFF {
+        return false;
+    }
+    match char::from_u32(code) {
+        Some(character) => !is_mark(character),
+        None => false,
+    }
+}
+
+/// Whether these bytes begin with a letter of three bytes, which can be read at once. Not all of those are found.
+#[inline(always)]
+pub fn begins_letter(bytes: &[u8]) -> bool
+    ensures long { result ≡ true → 3 ≤ length bytes.now }
+    ensures three { result ≡ true → specs.begins_three bytes.now ≡ true }
+{
+    bytes.len() >= 3
+        && is_three(bytes[0], bytes[1], bytes[2])
+        && are_letter(bytes[0], bytes[1], bytes[2])
 }
 
 impl Listener {
@@ -152,5 +184,13 @@ impl Listener {
             Some(character) => listener.hear(character),
             None => listener.going(self.held),
         }
+    }
+
+    /// What comes of the last of three bytes.
+    #[inline(always)]
+    pub fn read_three(self, a: u8, b: u8, c: u8) -> Listened
+        ensures { result ≡ specs.read (specs.read (specs.read self a).listener b).listener c }
+    {
+        self.read(a).listener.read(b).listener.read(c)
     }
 }

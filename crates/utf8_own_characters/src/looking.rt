@@ -1,12 +1,12 @@
 //! A first look at what a page prints: how often each of its clusters comes.
-ghost use Rattle.std.specs.Prelude.{◌≡◌, true};
+ghost use Rattle.std.specs.Prelude.{◌≡◌, ◌<◌, ◌≤◌, length, take, true};
 ghost use Rattle.utf8_own_characters.specs.Counting.{is_once};
-ghost use Rattle.utf8_own_characters.specs.Listening.{after, done_in};
+ghost use Rattle.utf8_own_characters.specs.Listening.{after, begins_three, done_in};
 ghost use Rattle.utf8_own_characters.specs.Looking as specs;
 
 use super::cluster::Cluster;
 use super::counting::{Count, count_cluster};
-use super::listening::Listener;
+use super::listening::{Listener, begins_letter};
 use nr_vectors::slice_vec::SliceVec;
 use unicode_width::UnicodeWidthChar;
 
@@ -54,6 +54,79 @@ fn note(counts: &mut SliceVec<'_, Count>, slots: &mut [u16], cluster: Option<Clu
     }
 }
 
+/// How many bytes were looked at, and whether what ended in them has room.
+#[derive(Clone, Copy)]
+struct Looked {
+    count: usize,
+    fits: bool,
+}
+
+/// Looks at the first of these bytes. Tells whether what ended has room, as below.
+#[inline(always)]
+fn look_at_one(
+    bytes: &[u8],
+    listener: &mut Listener,
+    counts: &mut SliceVec<'_, Count>,
+    slots: &mut [u16],
+) -> bool
+    requires some { 0 < length bytes.now }
+    requires once { is_once counts.old.items ≡ true }
+    ensures items { counts.new.items ≡ specs.seen counts.old.capacity counts.old.items (done_in listener.old (take 1 bytes.now)) }
+    ensures listener { listener.new ≡ after listener.old (take 1 bytes.now) }
+    ensures once { is_once counts.new.items ≡ true }
+    ensures room { counts.new.capacity ≡ counts.old.capacity }
+{
+    let listened = listener.read(bytes[0]);
+    *listener = listened.listener;
+    note(counts, slots, listened.done)
+}
+
+/// Looks at the letter of three bytes that these begin with: with the first two nothing ends.
+#[inline(always)]
+fn look_at_letter(
+    bytes: &[u8],
+    listener: &mut Listener,
+    counts: &mut SliceVec<'_, Count>,
+    slots: &mut [u16],
+) -> bool
+    requires long { 3 ≤ length bytes.now }
+    requires three { begins_three bytes.now ≡ true }
+    requires once { is_once counts.old.items ≡ true }
+    ensures items { counts.new.items ≡ specs.seen counts.old.capacity counts.old.items (done_in listener.old (take 3 bytes.now)) }
+    ensures listener { listener.new ≡ after listener.old (take 3 bytes.now) }
+    ensures once { is_once counts.new.items ≡ true }
+    ensures room { counts.new.capacity ≡ counts.old.capacity }
+{
+    let listened = listener.read_three(bytes[0], bytes[1], bytes[2]);
+    *listener = listened.listener;
+    note(counts, slots, listened.done)
+}
+
+/// Looks at the first of these bytes, or at the letter that they begin with.
+#[inline(always)]
+fn look_at_first(
+    bytes: &[u8],
+    listener: &mut Listener,
+    counts: &mut SliceVec<'_, Count>,
+    slots: &mut [u16],
+) -> Looked
+    requires some { 0 < length bytes.now }
+    requires once { is_once counts.old.items ≡ true }
+    ensures items { counts.new.items ≡ specs.seen counts.old.capacity counts.old.items (done_in listener.old (take result.count bytes.now)) }
+    ensures listener { listener.new ≡ after listener.old (take result.count bytes.now) }
+    ensures once { is_once counts.new.items ≡ true }
+    ensures room { counts.new.capacity ≡ counts.old.capacity }
+    ensures some { 0 < result.count }
+    ensures within { result.count ≤ length bytes.now }
+{
+    if begins_letter(bytes) {
+        let fits = look_at_letter(bytes, listener, counts, slots);
+        return Looked { count: 3, fits };
+    }
+    let fits = look_at_one(bytes, listener, counts, slots);
+    Looked { count: 1, fits }
+}
+
 /// Looks at more of a text: each cluster beyond ASCII that ends in it and shows something is counted, as far as there is room. Tells
 /// whether there was. The slots are those of `count_cluster`.
 pub fn look_at(
@@ -69,12 +142,11 @@ pub fn look_at(
     ensures room { counts.new.capacity ≡ counts.old.capacity }
 {
     let mut all = true;
-    for byte in bytes {
-        let listened = listener.read(*byte);
-        *listener = listened.listener;
-        if !note(counts, slots, listened.done) {
-            all = false;
-        }
+    let mut count = 0;
+    while count < bytes.len() {
+        let looked = look_at_first(&bytes[count..], listener, counts, slots);
+        count += looked.count;
+        all &= looked.fits;
     }
     all
 }

@@ -1,11 +1,12 @@
 //! The table of a page's own characters.
-ghost use Rattle.std.specs.Prelude.{◌≡◌, ◌+◌, ◌-◌, ◌*◌, ◌<◌, ◌≤◌, length, IsTrue, Some, None, slice_get};
+ghost use Rattle.std.specs.Prelude.{◌≡◌, ◌+◌, ◌-◌, ◌*◌, ◌<◌, ◌≤◌, false, length, IsTrue, Some, None, slice_get};
 ghost use Rattle.utf8_own_characters.specs.Choosing.{choice, table_of};
+ghost use Rattle.utf8_own_characters.specs.Cluster.{is_ascii};
 ghost use Rattle.utf8_own_characters.specs.Table as specs;
 ghost use Rattle.utf8_own_characters.specs.Table.{Good, place_of};
 
 use super::cluster::Cluster;
-use super::index::guess;
+use super::index::{first_place, guess};
 use std::marker::Model;
 
 /// What stands for a cluster.
@@ -141,6 +142,7 @@ impl<'a> Table<'a> {
     }
 
     /// Whether a cluster stands at this place among the narrow ones.
+    #[inline(always)]
     fn narrow_stands(&self, place: usize, cluster: &Cluster) -> bool
         ensures { IsTrue result → slice_get self.now.narrow place ≡ Some cluster.now }
     {
@@ -148,6 +150,7 @@ impl<'a> Table<'a> {
     }
 
     /// Whether a cluster stands at this place among the wide ones.
+    #[inline(always)]
     fn wide_stands(&self, place: usize, cluster: &Cluster) -> bool
         ensures { IsTrue result → slice_get self.now.wide place ≡ Some cluster.now }
     {
@@ -176,8 +179,25 @@ impl<'a> Table<'a> {
         }
     }
 
-    /// What stands for a cluster: a byte for each column. A look in a slot or two finds it; one that has no code is looked for
-    /// everywhere.
+    /// What stands for a cluster beyond ASCII: a look in a slot or two finds it, and one that has no code is looked for everywhere.
+    #[inline(never)]
+    fn found(&self, cluster: Cluster) -> Option<Code>
+        requires good { Good self.now }
+        requires beyond { false ≡ is_ascii cluster }
+        ensures { result ≡ specs.code self.now cluster }
+    {
+        let place = guess(self.narrow, self.wide, self.slots, &cluster);
+        if place < 128 && self.narrow_stands(place, &cluster) {
+            return Some(Code::One((128 + place) as u8));
+        }
+        if place >= 128 && self.wide_stands(place - 128, &cluster) {
+            return Some(self.pair(place - 128));
+        }
+        self.sought(&cluster)
+    }
+
+    /// What stands for a cluster: a byte for each column. Mostly its first slot says where it stands.
+    #[inline(always)]
     pub fn code(&self, cluster: &Cluster) -> Option<Code>
         requires { Good self.now }
         ensures { result ≡ specs.code self.now cluster.now }
@@ -185,14 +205,14 @@ impl<'a> Table<'a> {
         if cluster.is_ascii() {
             return Some(Code::One(cluster.letter as u8));
         }
-        let place = guess(self.narrow, self.wide, self.slots, cluster);
+        let place = first_place(self.slots, cluster);
         if place < 128 && self.narrow_stands(place, cluster) {
             return Some(Code::One((128 + place) as u8));
         }
         if place >= 128 && self.wide_stands(place - 128, cluster) {
             return Some(self.pair(place - 128));
         }
-        self.sought(cluster)
+        self.found(*cluster)
     }
 
     /// Whether a byte is a lead.

@@ -4,7 +4,7 @@ use Rattle.utf8_own_characters.proofs.Coding.{code_if_narrow, code_if_wide}
 use Rattle.utf8_own_characters.proofs.table.Table.code.Goals as goal
 
 pub returns-then-narrow_stands : goal.returns-then-narrow_stands
-returns-then-narrow_stands c = code_if_narrow _ c.args.cluster.now c.guess-place.result c.requires c.if-is_ascii.ensures (c.if-narrow_stands.ensures refl)
+returns-then-narrow_stands c = code_if_narrow _ c.args.cluster.now c.first_place-place.result c.requires c.if-is_ascii.ensures (c.if-narrow_stands.ensures refl)
 
 pub pair-requires-clause-there : goal.pair-requires-clause-there
 pair-requires-clause-there c = slice_get_within _ _ _ (c.if-wide_stands.ensures refl)
