@@ -319,14 +319,14 @@ first_quote t =
     (takes_as in_quotes t [] (code "\"") _ _ (begin_offered (code "\"") (words_at places.Begun v) k quote_text refl)
     (quote_takes (v.count == 1) (is_ninth v) t v (placed (mark_of (code "\"")) k))))
 
--- right after the first quote of the first word a blank is printed
+-- right after the first quote of the first word a blank is printed, and what follows it where it is empty
 opened_said : Class → Said
-opened_said Space = says.Escape (code "&")
-opened_said c = says.Nothing
+opened_said Other = says.Nothing
+opened_said c = says.Escape (code "&")
 
 opened_pieces : Class → List Piece
-opened_pieces Space = Printed ∷ []
-opened_pieces c = []
+opened_pieces Other = []
+opened_pieces c = Printed ∷ []
 
 opened_offered : (c : Class) (said : Said) (w : Words) (k : Half) → as_is (offered_at places.Opened c said (words_at places.Opened w)) k ≡ left (opened_said c) (open_half (lines.Words (words_at places.Quoted w)) k)
 unfolding opened_said

@@ -31,6 +31,10 @@ ended said h = taken said (in_text (without_escape h))
 abbrev pub ended_font : Said → Half → Offered
 ended_font said h = taken said (in_fonts (without_escape h))
 
+-- It was that of a size: blanks after it that begin a line are printed, as after a font.
+abbrev pub ended_size : Half → Offered
+ended_size h = ended_font (says.Kept h.kept) (placed Other h)
+
 -- it goes out as it was kept
 abbrev pub ended_kept : Half → Offered
 ended_kept h = ended (says.Kept h.kept) (placed Other h)

@@ -8,14 +8,15 @@ use Rattle.preconv_converter.specs.declared.half.Line.{Line}
 use Rattle.preconv_converter.specs.declared.half.Line.TheVariants as lines
 use Rattle.preconv_converter.specs.Half.{Offered, taken, left}
 use Rattle.preconv_converter.specs.Glyphs.{font_of}
-use Rattle.preconv_converter.specs.Words.{word_face}
+use Rattle.preconv_converter.specs.declared.words.WordFont.{WordFont}
+use Rattle.preconv_converter.specs.Words.{word_font, with_face}
 use Rattle.preconv_converter.specs.Hyphens.{saying}
 use Rattle.preconv_converter.specs.Endings.{with_byte, ended_font}
 
 -- the font here, by its letter: that of a macro's word, or of text
-abbrev pub face_at : Line → ℕ → ℕ
-face_at (lines.Words words) font = word_face words
-face_at line font = font
+abbrev pub face_at : Line → ℕ → WordFont → ℕ
+face_at (lines.Words words) font set = word_font set words
+face_at line font set = font
 
 abbrev pub is_words : Line → Bool
 is_words (lines.Words words) = true
@@ -29,10 +30,15 @@ font_after line letter font previous =
 abbrev pub previous_after : Line → ℕ → ℕ → ℕ
 previous_after line font previous = if is_words line then previous else font
 
+abbrev pub word_font_after : Line → ℕ → WordFont → WordFont
+word_font_after (lines.Words words) letter set = with_face letter set words
+word_font_after line letter set = set
+
 abbrev pub faced : ℕ → Half → Half
 faced letter h = record h {
   font = font_after h.line letter h.font h.previous;
   previous = previous_after h.line h.font h.previous;
+  word_font = word_font_after h.line letter h.word_font;
 }
 
 abbrev pub font_or : Option ℕ → ℕ → ℕ
@@ -40,7 +46,7 @@ font_or None face = face
 font_or (Some letter) face = letter
 
 abbrev pub named_face : List ℕ → Half → ℕ
-named_face name h = font_or (font_of name) (face_at h.line h.font)
+named_face name h = font_or (font_of name) (face_at h.line h.font h.word_font)
 
 -- ---- by an escape
 

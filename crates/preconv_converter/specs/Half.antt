@@ -21,6 +21,7 @@ use Rattle.preconv_converter.specs.declared.half.Escape.{Escape}
 use Rattle.preconv_converter.specs.declared.half.Escape.TheVariants as escapes
 use Rattle.preconv_converter.specs.Likeness.{is_blank}
 use Rattle.preconv_converter.specs.Translations.{no_translations}
+use Rattle.preconv_converter.specs.Words.{no_font}
 
 -- what is half read then, what goes out, and whether the character is taken: one that is left is offered again
 pub record Offered : Type 0 where
@@ -57,6 +58,7 @@ first_half =
       tag = tags.Nowhere;
       font = code "R";
       previous = code "R";
+      word_font = no_font;
       translating = false;
       translations = no_translations;
     }

@@ -31,7 +31,7 @@ use Rattle.preconv_converter.specs.Beginnings.{opened, said_name, is_roman}
 use Rattle.preconv_converter.specs.Faces.{in_face, face_ended}
 use Rattle.preconv_converter.specs.Hyphens.{wide_mark, placed, gone_by, showing, carriage_return, is_moved, saying, in_text, hyphen, turns_hyphens, is_flowing}
 use Rattle.preconv_converter.specs.Conditions.{is_gap, before_condition, in_number, in_strings, in_asked}
-use Rattle.preconv_converter.specs.Words.{first_words, begins_word, is_ninth, offered_words, class_of}
+use Rattle.preconv_converter.specs.Words.{first_words, no_font, begins_word, is_ninth, offered_words, class_of}
 
 -- a blank, a control byte or a backslash ends a name
 abbrev pub ends_name : ℕ → Bool
@@ -150,6 +150,7 @@ opening o b h = record h {
   tag = tag_by o h.tag;
   font = if is_roman o then code "R" else h.font;
   previous = if is_roman o then code "R" else h.previous;
+  word_font = no_font;
 }
 
 -- the name goes out before the byte that ended it

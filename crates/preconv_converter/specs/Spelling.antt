@@ -7,13 +7,13 @@ use Rattle.preconv_converter.specs.declared.half.Escape.TheVariants as escapes
 use Rattle.preconv_converter.specs.declared.half.Kind.{Kind}
 use Rattle.preconv_converter.specs.declared.half.Kind.TheVariants as kinds
 use Rattle.preconv_converter.specs.Half.{Offered, taken, left, without_escape, in_text, abandoned}
-use Rattle.preconv_converter.specs.Endings.{keeping, spelling, going_on, ended_kept}
+use Rattle.preconv_converter.specs.Endings.{keeping, spelling, going_on, ended_size}
 use Rattle.preconv_converter.specs.Faces.{font_named}
 use Rattle.preconv_converter.specs.Named.{named}
 
 -- a name of one byte; the language has sizes of one digit
 abbrev pub named_once : Kind → Half → Offered
-named_once kinds.Size h = ended_kept h
+named_once kinds.Size h = ended_size h
 named_once kind h = named kind h
 
 abbrev pub named_by : Kind → ℕ → Half → Offered

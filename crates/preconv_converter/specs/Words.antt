@@ -6,6 +6,7 @@ use Rattle.preconv_converter.specs.declared.said.Said.{Said}
 use Rattle.preconv_converter.specs.declared.said.Said.TheVariants.{Nothing, Byte, Escape, Quotes, Font}
 use Rattle.preconv_converter.specs.declared.words.Words.{Words}
 use Rattle.preconv_converter.specs.declared.words.Emitted.{Emitted}
+use Rattle.preconv_converter.specs.declared.words.WordFont.{WordFont}
 use Rattle.preconv_converter.specs.declared.words.Fonts.{Fonts}
 use Rattle.preconv_converter.specs.declared.words.Fonts.TheVariants.{One, Same, Turn, Tag}
 use Rattle.preconv_converter.specs.declared.words.Place.{Place}
@@ -27,7 +28,7 @@ abbrev pub hyphens_by : Fonts → ℕ → Bool
 hyphens_by Tag count = count == 1
 hyphens_by fonts count = true
 
--- the font of the word, by its letter
+-- the font that the macro sets for the word, by its letter
 abbrev pub face_by : Fonts → Bool → ℕ
 face_by (Same a) second = a
 face_by (Turn a b) second = if second then b else a
@@ -35,6 +36,31 @@ face_by fonts second = code "R"
 
 abbrev pub word_face : Words → ℕ
 word_face w = face_by w.fonts w.second
+
+-- An escape sets a font for its word and those after it, but where two fonts take turns, and each word has its own. The ninth
+-- word and those after it have one number, so that nothing is known of these.
+abbrev pub no_font : WordFont
+no_font = record { word = 0; letter = code "R"; previous = code "R" }
+
+abbrev pub holds_by : Fonts → ℕ → Words → Bool
+holds_by (Turn a b) word w = (word == w.count) && not (is_ninth w)
+holds_by fonts word w = not (word == 0)
+
+abbrev pub has_set : WordFont → Words → Bool
+has_set set w = holds_by w.fonts set.word w
+
+abbrev pub word_font : WordFont → Words → ℕ
+word_font set w = if has_set set w then set.letter else word_face w
+
+abbrev pub previous_face : WordFont → Words → ℕ
+previous_face set w = if has_set set w then set.previous else word_face w
+
+abbrev pub with_face : ℕ → WordFont → Words → WordFont
+with_face letter set w = record {
+  word = w.count;
+  letter = if letter == code "P" then previous_face set w else letter;
+  previous = word_font set w;
+}
 
 -- a hyphen here is one of text: where a tag or an address stands, the words after it are numbers
 abbrev pub has_hyphens : Words → Bool
@@ -141,7 +167,7 @@ offered_closing Space said w = emitted Between (blank_said said w) true w
 offered_closing Other said w = emitted Between (blank_said (Byte (code " ")) w) false w
 
 -- After a quote with which a word begins. Blanks before the first word of a filled line are dropped: after the first quote
--- they are printed, as are those between words.
+-- they are printed, as are those between words, and so are those that follow a first word which is empty.
 abbrev pub after_quote : Words → Place
 after_quote w = if w.count == 1 then Opened else Quoted
 
@@ -154,8 +180,8 @@ offered_at Begun class said w = emitted Inside Nothing false w
 offered_at Inside Space said w = emitted Between (blank_said said w) true w
 offered_at Inside Quote said w = emitted Inside (quoted_said said Quotes w) true w
 offered_at Inside Other said w = emitted Inside said true w
-offered_at Opened Space said w = emitted Quoted (Escape (code "&")) false w
-offered_at Opened class said w = emitted Quoted Nothing false w
+offered_at Opened Other said w = emitted Quoted Nothing false w
+offered_at Opened class said w = emitted Quoted (Escape (code "&")) false w
 offered_at Quoted Quote said w = emitted Closing (quoted_said said Nothing w) true w
 offered_at Quoted class said w = emitted Quoted said true w
 offered_at Closing class said w = offered_closing class said w

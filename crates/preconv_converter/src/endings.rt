@@ -61,6 +61,15 @@ impl Half {
         Seen::taken(said)
     }
 
+    /// It was that of a size, and goes out as it was kept.
+    pub(crate) fn ended_size(&mut self) -> Seen
+        ensures { offered self.new result ≡ specs.ended_size self.old }
+    {
+        self.places(Mark::Other);
+        let kept = self.kept;
+        self.ended_font(Said::Kept(kept))
+    }
+
     /// It has ended, and goes out as it was kept.
     pub(crate) fn ended_kept(&mut self) -> Seen
         ensures { offered self.new result ≡ specs.ended_kept self.old }

@@ -6,26 +6,28 @@ ghost use Rattle.preconv_converter.specs.Faces as specs;
 use super::glyphs::font_of;
 use super::half::{Half, Line, Seen};
 use super::said::Said;
+use super::words::WordFont;
 use nr_units::Name;
 
 impl Line {
-    /// The letter of the font here, where text has this one.
-    fn face(self, text: u8) -> u8
-        ensures { result ≡ specs.face_at self text }
+    /// The letter of the font here, where text has this one, and that was set in a macro's word.
+    fn face(self, text: u8, set: WordFont) -> u8
+        ensures { result ≡ specs.face_at self text set }
     {
         match self {
-            Line::Words(words) => words.face(),
+            Line::Words(words) => words.font(set),
             _ => text,
         }
     }
 }
 
 impl Half {
-    /// A font is set. What a macro sets in its line holds no longer than that.
+    /// A font is set. What is set in a macro's line holds no longer than that.
     pub(crate) fn faces(&mut self, letter: u8)
         ensures { self.new ≡ specs.faced letter self.old }
     {
-        if matches!(self.line, Line::Words(_)) {
+        if let Line::Words(words) = self.line {
+            self.word_font = words.with_face(letter, self.word_font);
             return;
         }
         let before = self.font;
@@ -43,7 +45,7 @@ impl Half {
     {
         match font_of(name.as_bytes()) {
             Some(letter) => letter,
-            None => self.line.face(self.font),
+            None => self.line.face(self.font, self.word_font),
         }
     }
 

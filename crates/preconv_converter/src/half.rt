@@ -7,7 +7,7 @@ use super::composed::Marked;
 use super::likeness::is_blank;
 use super::said::Said;
 use super::translations::no_translations;
-use super::words::Words;
+use super::words::{WordFont, Words};
 use nr_units::Name;
 
 /// Where a line is read.
@@ -267,6 +267,8 @@ pub(crate) struct Half {
     pub font: u8,
     /// That of the font before.
     pub previous: u8,
+    /// The font that an escape has set in a macro's line.
+    pub word_font: WordFont,
     /// A byte is translated.
     pub translating: bool,
     /// What each byte of ASCII becomes, 0 if it stays.
@@ -452,6 +454,7 @@ impl Half {
             tag: Tag::Nowhere,
             font: b'R',
             previous: b'R',
+            word_font: WordFont::new(),
             translating: false,
             translations: no_translations(),
         }

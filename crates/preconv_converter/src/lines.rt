@@ -7,7 +7,7 @@ use super::beginnings::{Opens, opened, said_name};
 use super::half::{Before, Dots, Half, Line, Mark, Pair, Seen, Table, Tag};
 use super::hyphens::wide_mark;
 use super::said::Said;
-use super::words::{Class, Fonts, Words};
+use super::words::{Class, Fonts, WordFont, Words};
 use nr_units::Name;
 
 /// A blank, a control byte or a backslash, which end a name.
@@ -149,6 +149,7 @@ impl Half {
             self.font = b'R';
             self.previous = b'R';
         }
+        self.word_font = WordFont::new();
         match opens {
             Opens::Title if !self.table.is_read() => self.manual = true,
             Opens::Table => {

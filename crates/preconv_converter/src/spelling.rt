@@ -23,7 +23,7 @@ impl Half {
         self.keep(byte);
         self.spell(byte);
         match kind {
-            Kind::Size => self.ended_kept(),
+            Kind::Size => self.ended_size(),
             _ => self.named(kind),
         }
     }

@@ -1,7 +1,7 @@
 //! The words of a font macro's line. After the eighth all that follows is one word in quotes, since no
 //! more than nine are taken.
 ghost use Rattle.std.specs.Prelude.{◌≡◌, ◌<◌};
-ghost use Rattle.preconv_converter.specs.Words.{begun, begins_word, after_quote, blank_said, class_of, first_words, font_said, goes_on_with, goes_on_with_space, has_hyphens, inside, is_as_is, is_ninth, offered_closing, offered_words, quoted_said, taken_as_is, emitted, word_face, words_at};
+ghost use Rattle.preconv_converter.specs.Words.{begun, begins_word, after_quote, blank_said, class_of, first_words, font_said, goes_on_with, goes_on_with_space, has_hyphens, has_set, inside, is_as_is, is_ninth, no_font, offered_closing, offered_words, previous_face, quoted_said, taken_as_is, emitted, with_face, word_face, word_font, words_at};
 
 use super::said::Said;
 
@@ -59,6 +59,17 @@ pub(crate) struct Words {
     pub place: Place,
 }
 
+/// The font that an escape has set in a macro's line.
+#[derive(Clone, Copy)]
+pub(crate) struct WordFont {
+    /// The number of its word: 0 is that of none.
+    pub word: u8,
+    /// The letter of the font.
+    pub letter: u8,
+    /// That of the font before.
+    pub previous: u8,
+}
+
 /// What a character does among words.
 #[derive(Clone, Copy)]
 pub(crate) struct Emitted {
@@ -79,6 +90,19 @@ impl Class {
             b' ' => Class::Space,
             b'"' => Class::Quote,
             _ => Class::Other,
+        }
+    }
+}
+
+impl WordFont {
+    /// None was set.
+    pub(crate) fn new() -> WordFont
+        ensures { result ≡ no_font }
+    {
+        WordFont {
+            word: 0,
+            letter: b'R',
+            previous: b'R',
         }
     }
 }
@@ -113,14 +137,61 @@ impl Words {
         }
     }
 
-    /// The letter of the font of the word.
-    pub(crate) fn face(self) -> u8
+    /// The letter of the font that the macro sets for the word.
+    fn face(self) -> u8
         ensures { result ≡ word_face self }
     {
         match self.fonts {
             Fonts::One | Fonts::Tag => b'R',
             Fonts::Same(letter) => letter,
             Fonts::Turn(first, second) => if self.second { second } else { first },
+        }
+    }
+
+    /// Whether this font holds in the word. Of two fonts in turn each word has its own; the ninth and those after it have one number.
+    fn has_set(self, set: WordFont) -> bool
+        ensures { result ≡ has_set set self }
+    {
+        match self.fonts {
+            Fonts::Turn(_, _) => set.word == self.count && !self.is_ninth(),
+            _ => set.word != 0,
+        }
+    }
+
+    /// The letter of the font here, where an escape has set this one.
+    pub(crate) fn font(self, set: WordFont) -> u8
+        ensures { result ≡ word_font set self }
+    {
+        if self.has_set(set) {
+            set.letter
+        } else {
+            self.face()
+        }
+    }
+
+    /// That of the one before.
+    fn previous(self, set: WordFont) -> u8
+        ensures { result ≡ previous_face set self }
+    {
+        if self.has_set(set) {
+            set.previous
+        } else {
+            self.face()
+        }
+    }
+
+    /// An escape sets a font.
+    pub(crate) fn with_face(self, letter: u8, set: WordFont) -> WordFont
+        ensures { result ≡ with_face letter set self }
+    {
+        WordFont {
+            word: self.count,
+            letter: if letter == b'P' {
+                self.previous(set)
+            } else {
+                letter
+            },
+            previous: self.font(set),
         }
     }
 
@@ -208,7 +279,7 @@ impl Words {
         if self.is_ninth() { ninth } else { said }
     }
 
-    /// After a quote with which a word begins. Blanks there are printed, as are those between words.
+    /// After a quote with which a word begins. In the first, blanks there are printed, as are those after it where it is empty.
     fn after_quote(self) -> Place
         ensures { result ≡ after_quote self }
     {
@@ -324,8 +395,8 @@ impl Words {
                 true,
             ),
             (Place::Inside, Class::Other) => self.emitted(Place::Inside, said, true),
-            (Place::Opened, Class::Space) => self.emitted(Place::Quoted, Said::Escape(b'&'), false),
-            (Place::Opened, _) => self.emitted(Place::Quoted, Said::Nothing, false),
+            (Place::Opened, Class::Other) => self.emitted(Place::Quoted, Said::Nothing, false),
+            (Place::Opened, _) => self.emitted(Place::Quoted, Said::Escape(b'&'), false),
             (Place::Quoted, Class::Quote) => self.emitted(
                 Place::Closing,
                 self.quoted_said(said, Said::Nothing),
