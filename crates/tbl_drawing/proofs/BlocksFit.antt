@@ -1,6 +1,5 @@
 -- A block that goes on over rows below has room for all its lines from its first row to the end of its last.
-use Rattle.std.specs.Prelude.{◌⊎◌}
-use Rattle.std.proofs.Common.{◌≡◌, ◌≢◌, ℕ, zero, suc, ◌+◌, ◌-◌, ◌*◌, ◌/◌, ◌<◌, ◌≤◌, min, Bool, true, false, ◌&&◌, nat_lt, length, get_or, refl, sym, ap, subst, arith, ◌∙◌, length-set, inl, inr, if◌then◌else◌}
+use Rattle.std.proofs.Common.{◌≡◌, ℕ, zero, suc, ◌+◌, ◌-◌, ◌*◌, ◌/◌, ◌<◌, ◌≤◌, min, Bool, true, false, ◌&&◌, nat_lt, length, get_or, refl, sym, ap, subst, arith, ◌∙◌, length-set, inl, inr}
 use Rattle.std.proofs.lemmas.List.{get_or-set_same}
 use Rattle.nr_vectors.specs.Items.{Items}
 use Rattle.tbl_columns.specs.declared.grid.Cell.{Cell}
@@ -9,23 +8,22 @@ use Rattle.tbl_columns.specs.Columns.{is_given}
 use Rattle.tbl_columns.specs.Held.{cell_of, height_of, placed}
 use Rattle.tbl_columns.proofs.Turns.{set_has, set_keeps, set_same}
 use Rattle.tbl_drawing.specs.declared.layout.Layout.{Layout}
-use Rattle.tbl_drawing.specs.declared.layout.Step.{Step}
-use Rattle.tbl_drawing.specs.declared.layout.StepKind.{StepKind}
-use Rattle.tbl_drawing.specs.declared.layout.StepKind.TheVariants as steps
 use Rattle.tbl_drawing.specs.declared.layout.Tall.{Tall}
 use Rattle.tbl_drawing.specs.Heights.{free_lines, line_wanted, lines_added, lines_given, lines_over, missing, raised_at, raised_below, row_end, rows_raised, stand_line, with_more}
 use Rattle.tbl_drawing.specs.Held.{lines_of, step, tall, tall_of}
 use Rattle.tbl_drawing.specs.Laws.{IsRead}
-use Rattle.tbl_drawing.specs.Steps.{Walking, row_line, row_on_step, stepped, steps_taken, walked, walking_on, without_steps}
-use Rattle.tbl_drawing.proofs.Below.{below_by, by_cases, equal_or, not_below_by, two}
-use Rattle.tbl_drawing.proofs.LinesAdded.{Heightened, above_next, more_above, rows_lower}
+use Rattle.tbl_drawing.specs.Steps.{row_line, row_on_step, stepped, steps_taken, walked}
+use Rattle.tbl_drawing.proofs.Below.{by_cases, equal_or, not_below_by, two}
+use Rattle.tbl_drawing.proofs.LinesAdded.{Heightened, rows_lower}
+use Rattle.tbl_drawing.proofs.Locks.{above_next, more_above}
 use Rattle.tbl_drawing.proofs.Once.{Drawn, IsPlaced, Reached, at, end_of, height, steps_reached}
 use Rattle.tbl_drawing.proofs.OnceStands.{LineFound}
-use Rattle.tbl_drawing.proofs.RowsCovered.{Over, RowsStand, rows_stand}
+use Rattle.tbl_drawing.proofs.OverRows.{Over}
+use Rattle.tbl_drawing.proofs.RowsCovered.{RowsStand, rows_stand}
 use Rattle.tbl_drawing.proofs.WalkHas.{Stays, walk_has}
 use Rattle.tbl_table.specs.declared.table.Stand.{Stand}
 use Rattle.tbl_table.specs.declared.table.Stand.TheVariants as stands
-use Rattle.tbl_table.specs.Lists.{added, in_turn, put}
+use Rattle.tbl_table.specs.Lists.{in_turn, put}
 use Rattle.tbl_table.specs.Sums.{sum}
 
 abbrev most : ℕ
@@ -374,7 +372,7 @@ lines_found t ends n k ts q inside h goes less few =
     let zt : row_line z f.top ≡ row_line v f.top = ap (λ (j : ℕ). (step v j).line) (h.step f.top) in
     let zb : row_line z f.bottom ≡ row_line v f.bottom = ap (λ (j : ℕ). (step v j).line) (h.step f.bottom) in
     let room_is : sum (row_line v f.top) (more_above z f.top) + height_of v.grid f
-        ≤ sum (sum (row_line v f.bottom) (more_above z f.bottom)) (sum (tall z f.bottom).height (tall z f.bottom).more) =
+    ≤ sum (sum (row_line v f.bottom) (more_above z f.bottom)) (sum (tall z f.bottom).height (tall z f.bottom).more) =
     between (height_of v.grid f) (row_line v f.top) (row_line v f.bottom) got (tall z f.bottom).height (tall z f.bottom).more
     (more_above z f.top) (more_above z f.bottom)
     (subst (λ (x : ℕ). min (height_of v.grid f) most ≤ x) (over_is z f (row_line v f.top) (row_line v f.bottom) zt zb) fit) old.order

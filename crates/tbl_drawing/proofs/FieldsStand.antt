@@ -33,7 +33,7 @@ use Rattle.tbl_drawing.proofs.OnceStands.{Fits, HasLines, LineFound, placed_once
 use Rattle.tbl_drawing.proofs.PlacedRows.{Begins, InRange, RowsPlaced, all_placed, within}
 use Rattle.tbl_drawing.proofs.RowHeights.{Raised, all_raised, heights_are, heights_count, heights_fit, heights_lines, heights_plain}
 use Rattle.tbl_drawing.proofs.RowPlaced.{entry, most}
-use Rattle.tbl_drawing.proofs.RowsCovered.{Over}
+use Rattle.tbl_drawing.proofs.OverRows.{Over}
 use Rattle.tbl_table.specs.declared.table.Item.TheVariants as items
 use Rattle.tbl_table.specs.declared.table.Table.{Table}
 use Rattle.tbl_table.specs.Held.{item, none_of}

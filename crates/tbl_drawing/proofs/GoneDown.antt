@@ -1,6 +1,6 @@
 -- A field that goes on over rows below stands in its first column in each of them, and ends in a row that takes room.
 use Rattle.std.specs.Prelude.{◌⊎◌}
-use Rattle.std.proofs.Common.{◌≡◌, ◌≢◌, ℕ, zero, suc, ◌+◌, ◌-◌, ◌*◌, ◌<◌, ◌≤◌, Bool, true, false, ◌==◌, ◌&&◌, nat_lt, List, [], ◌∷◌, ◌++◌, length, get_or, refl, sym, ap, subst, arith, ◌∙◌, length-set, inl, inr, if◌then◌else◌}
+use Rattle.std.proofs.Common.{◌≡◌, ◌≢◌, ℕ, zero, suc, ◌+◌, ◌-◌, ◌*◌, ◌<◌, ◌≤◌, Bool, true, false, ◌==◌, ◌&&◌, nat_lt, List, length, get_or, refl, sym, ap, subst, arith, ◌∙◌, length-set, inl, inr, if◌then◌else◌}
 use Rattle.std.proofs.lemmas.Bool.Decides.{nat_tests}
 use Rattle.std.proofs.lemmas.List.{get_or-set_other, get_or-set_same}
 use Rattle.nr_vectors.specs.Items.{Items}
@@ -12,8 +12,9 @@ use Rattle.tbl_columns.specs.Cells.{Settling, columns_over, ended_above, ended_i
 use Rattle.tbl_columns.specs.Held.{cell_number, cell_of, columns, forgotten_cells, no_cell, no_place, number_place, placed}
 use Rattle.tbl_columns.proofs.Turns.{set_has, set_same}
 use Rattle.tbl_drawing.proofs.Below.{below_by, below_or, by_cases, equal_or, not_below_by, two}
-use Rattle.tbl_drawing.proofs.PlacedRows.{AllRoom, Begins, RowsPlaced, rows_placed, up_to, within}
-use Rattle.tbl_drawing.proofs.RowPlaced.{Alone, HasRoom, Mine, Olds, Partly, Starts, added_old, entry, judged, most, one_less, place_is, row_filled, row_olds}
+use Rattle.tbl_drawing.proofs.PlacedRows.{AllRoom, RowsPlaced, rows_placed, up_to, within}
+use Rattle.tbl_drawing.proofs.RowJudged.{judged, place_is}
+use Rattle.tbl_drawing.proofs.RowPlaced.{Alone, HasRoom, Mine, Olds, Partly, Starts, added_old, entry, one_less, row_filled, row_olds}
 use Rattle.tbl_table.specs.declared.table.Row.{Row}
 use Rattle.tbl_table.specs.Held.{key, line, no_field, row}
 use Rattle.tbl_table.specs.Lists.{added, in_turn, put}

@@ -12,7 +12,8 @@ use Rattle.tbl_columns.specs.Cells.{Placing, Settling, ended_in, place_of, place
 use Rattle.tbl_columns.specs.Held.{cell_of, columns, forgotten_cells, no_cell, no_place, placed}
 use Rattle.tbl_columns.proofs.Turns.{if_true, set_same, turn_has}
 use Rattle.tbl_drawing.proofs.Below.{below_by, below_is, below_or, by_cases, not_below_by}
-use Rattle.tbl_drawing.proofs.RowPlaced.{HasRoom, Mine, Partly, Starts, entry, judged, most, row_filled}
+use Rattle.tbl_drawing.proofs.RowJudged.{judged}
+use Rattle.tbl_drawing.proofs.RowPlaced.{HasRoom, Mine, Partly, Starts, entry, most, row_filled}
 use Rattle.tbl_table.specs.declared.table.Row.{Row}
 use Rattle.tbl_table.specs.Held.{row}
 use Rattle.tbl_table.specs.Lists.{added, in_turn, put}

@@ -1,5 +1,5 @@
 -- What each step of a walk over a table's items keeps, the walk keeps.
-use Rattle.std.proofs.Common.{ℕ, ◌+◌, Bool, true, false, ◌==◌, ◌&&◌, ◌||◌, not, Option, None, Some, length, if◌then◌else◌}
+use Rattle.std.proofs.Common.{ℕ, Bool, true, false, ◌&&◌, ◌||◌, not, Option, None, Some, length}
 use Rattle.tbl_columns.specs.declared.grid.Placed.{Placed}
 use Rattle.tbl_columns.specs.Held.{placed}
 use Rattle.tbl_columns.proofs.Turns.{turn_has}
@@ -8,7 +8,7 @@ use Rattle.tbl_drawing.specs.declared.layout.StepKind.{StepKind}
 use Rattle.tbl_drawing.specs.declared.layout.StepKind.TheVariants as steps
 use Rattle.tbl_drawing.specs.declared.steps.Walk.{Walk}
 use Rattle.tbl_drawing.specs.Held.{lines_of, tall}
-use Rattle.tbl_drawing.specs.Steps.{Walking, after_row, asked, beyond_stepped, closed_box, closed_rule, closes_rule, has_beyond, on_step, other, released, released_beside, row_asked, row_beside, row_on_step, row_stepped, ruled, space_in, stepped, walk_begun, walk_ended, walked, walked_at, walked_item, walked_line, walked_own_row, walking_on, without_steps}
+use Rattle.tbl_drawing.specs.Steps.{Walking, asked, beyond_stepped, closed_box, closed_rule, closes_rule, has_beyond, on_step, other, released, released_beside, row_asked, row_beside, row_on_step, row_stepped, ruled, space_in, stepped, walk_begun, walk_ended, walked, walked_at, walked_item, walked_line, walked_own_row, walking_on, without_steps}
 use Rattle.tbl_drawing.proofs.Below.{by_cases}
 use Rattle.tbl_table.specs.declared.table.Item.{Item}
 use Rattle.tbl_table.specs.declared.table.Item.TheVariants as items
@@ -54,7 +54,7 @@ module _ (Q : Walking → Type 0) (s : Stays Q)
     beyond_has r p w q =
         by_cases Q (has_beyond w.layout r p) (other (steps.Beyond r) w) w (λ e. other_has (steps.Beyond r) w q) (λ e. q)
 
-    item_has : (i : Item) (w : Walking) → Q w → Q (walked_item i w)
+    pub item_has : (i : Item) (w : Walking) → Q w → Q (walked_item i w)
     item_has items.Rule w q =
         let v : Walking = released_beside w in
         s.walk v (ruled true v).walk (released_has (row_beside w.layout w.walk) w q)

@@ -1,5 +1,5 @@
 -- What may be expected of the lines of any table.
-use Rattle.std.specs.Prelude.{◌≡◌, ℕ, ◌+◌, ◌*◌, ◌<◌, ◌≤◌, Bool, true, false, ◌&&◌, List, [], ◌∷◌, ◌++◌, length, Option, Some, if◌then◌else◌}
+use Rattle.std.specs.Prelude.{◌≡◌, ℕ, ◌+◌, ◌*◌, ◌<◌, ◌≤◌, Bool, true, List, [], ◌∷◌, ◌++◌, length, Option, Some, if◌then◌else◌}
 use Rattle.tbl_columns.specs.Frames.{bars_seen, table_end}
 use Rattle.tbl_columns.specs.Held.{cell_number, cell_of, columns, height_of, placed}
 use Rattle.tbl_drawing.specs.declared.layout.Layout.{Layout}

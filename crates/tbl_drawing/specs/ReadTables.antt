@@ -1,5 +1,5 @@
 -- What every table that is read has, of what the laws of its lines and its columns ask for.
-use Rattle.std.specs.Prelude.{◌≡◌, ℕ, ◌+◌, ◌<◌, ◌≤◌, Bool, true, false, ◌&&◌, [], length}
+use Rattle.std.specs.Prelude.{◌≡◌, ℕ, ◌+◌, ◌<◌, ◌≤◌, Bool, true, [], length}
 use Rattle.tbl_columns.specs.declared.grid.Grid.{Grid}
 use Rattle.tbl_columns.specs.declared.grid.Room.{Room}
 use Rattle.tbl_columns.specs.Frames.{table_end}
