@@ -190,13 +190,18 @@ with_columns p = with_blocks (columned p.blocks.items) p
 abbrev pub columns_if : Bool → Page → Page
 columns_if t p = if t then with_columns p else p
 
+abbrev pub asks_columns : List ℕ → List ℕ → Bool
+asks_columns word name = bytes_eq word (codes "-column") && bytes_eq name (codes "Bl")
+
+abbrev pub called_if : Bool → Page → Page
+called_if calls p = if calls then called p else p
+
 -- a word calls a macro where words may, and is counted
 unfoldable pub worded : Page → Page
 worded p =
     let o = name_worded p in
-    let q = if p.half.calls then called o else o in
-    let columns = bytes_eq p.half.name (codes "-column") && bytes_eq q.wording.name (codes "Bl") in
-    let r = columns_if columns q in
+    let q = called_if p.half.calls o in
+    let r = columns_if (asks_columns p.half.name q.wording.name) q in
     record r { wording = taking p.half.name r.wording }
 
 abbrev pub is_quoted : Line → Bool
@@ -223,11 +228,14 @@ abbrev pub section_begun : Page → Page
 section_begun p =
     if names_section p.wording then with_naming (record p.naming { section = p.wording.line }) p else p
 
--- the line ends: what is wrong with its words is reported
+-- what is wrong with its words
+abbrev pub wrong : Line → Page → Option Kind
+wrong before p = if is_quoted before then Some (kinds.OpenQuote p.wording.name) else fault p.wording
+
+-- the line ends: that is reported
 abbrev pub line_ended : Line → Page → Page
 line_ended before p =
-    let wrong = if is_quoted before then Some (kinds.OpenQuote p.wording.name) else fault p.wording in
-    reported_of_line wrong (section_begun (name_ended (record p { wording = record p.wording { reading = false } })))
+    reported_of_line (wrong before p) (section_begun (name_ended (record p { wording = record p.wording { reading = false } })))
 
 abbrev pub is_start : Line → Bool
 is_start lines_of.Start = true

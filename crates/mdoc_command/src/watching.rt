@@ -50,6 +50,13 @@ fn is_prologue(name: &[u8]) -> bool
     name == b"Dd".as_slice() || name == b"Dt".as_slice() || name == b"Os".as_slice()
 }
 
+/// Whether a word of a macro asks for columns.
+fn asks_columns(word: Name, name: Name) -> bool
+    ensures { result ≡ specs.asks_columns word name }
+{
+    word.as_bytes() == b"-column".as_slice() && name.as_bytes() == b"Bl".as_slice()
+}
+
 impl<'a> Model for Watch<'a> {
     ghost use Rattle.mdoc_command.specs.Watching.{Page};
 
@@ -87,7 +94,8 @@ impl<'a> Watch<'a> {
     /// Proved: What is reported of a page is what the definition finds wrong with it: macros that are none, blocks
     /// and enclosures that nothing ends, ends of what is not open or in the wrong order, too many that are open, what
     /// stands outside of its list, comes after the title's place or there again, the words of a macro's line, and the
-    /// page's name where it is missing. (`Watch::hear`, `Watch::finish`; `tell_complaints` of filters_complaints writes it)
+    /// page's name where it is missing. (`Watch::hear`, `Watch::finish`; `tell_complaints` of filters_complaints writes
+    /// it)
     #[inline(always)]
     pub fn hear(&mut self, byte: u8)
         ensures { self.new ≡ specs.heard byte self.old }
@@ -111,16 +119,21 @@ impl<'a> Watch<'a> {
         ensures { self.new ≡ specs.worded self.old }
     {
         let word = self.half.name;
+        let calls = self.half.calls;
         self.name_word();
-        if self.half.calls {
+        self.call_if(calls);
+        let columns = asks_columns(word, self.wording.name);
+        self.columns_if(columns);
+        self.wording.takes(word);
+    }
+
+    /// A word that may call a macro comes, or one that doesn't.
+    fn call_if(&mut self, calls: bool)
+        ensures { self.new ≡ specs.called_if calls self.old }
+    {
+        if calls {
             self.call();
         }
-        if word.as_bytes() == b"-column".as_slice()
-            && self.wording.name.as_bytes() == b"Bl".as_slice()
-        {
-            self.has_columns();
-        }
-        self.wording.takes(word);
     }
 
     /// The word may be that of `.Nm`, call it, or call another macro, so that it has none.
@@ -162,6 +175,15 @@ impl<'a> Watch<'a> {
         }
     }
 
+    /// The list that the line begins is one of columns, where its word says so.
+    fn columns_if(&mut self, columns: bool)
+        ensures { self.new ≡ specs.columns_if columns self.old }
+    {
+        if columns {
+            self.has_columns();
+        }
+    }
+
     /// The list that the line begins is one of columns.
     fn has_columns(&mut self)
         ensures { self.new ≡ specs.with_columns self.old }
@@ -194,16 +216,36 @@ impl<'a> Watch<'a> {
     fn end_line(&mut self, before: Line)
         ensures { self.new ≡ specs.line_ended before self.old }
     {
+        let wrong = self.wrong(before);
         self.wording.reading = false;
         self.end_name();
+        self.begins_section();
+        self.tell_of_line(wrong);
+    }
+
+    /// What is wrong with the words of the line.
+    fn wrong(&self, before: Line) -> Option<Kind>
+        ensures { result ≡ specs.wrong before self.now }
+    {
+        if matches!(before, Line::Quoted(_)) {
+            return Some(Kind::OpenQuote(self.wording.name));
+        }
+        self.wording.fault()
+    }
+
+    /// The line may begin the section of the page's name.
+    fn begins_section(&mut self)
+        ensures { self.new ≡ specs.section_begun self.old }
+    {
         if self.wording.names_section() {
             self.naming.section = self.wording.line;
         }
-        let wrong = if matches!(before, Line::Quoted(_)) {
-            Some(Kind::OpenQuote(self.wording.name))
-        } else {
-            self.wording.fault()
-        };
+    }
+
+    /// Tells what is wrong with its words.
+    fn tell_of_line(&mut self, wrong: Option<Kind>)
+        ensures { self.new ≡ specs.reported_of_line wrong self.old }
+    {
         if let Some(kind) = wrong {
             let line = self.wording.line;
             self.reported.report(Complaint { kind, line });
