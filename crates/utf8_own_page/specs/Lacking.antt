@@ -1,6 +1,9 @@
--- The characters that a page's own table has no room for, and how they are reported.
-use Rattle.std.specs.Prelude.{◌≡◌, ℕ, ◌-◌, ◌/◌, ◌%◌, List, [], ◌∷◌, ◌++◌, length, take, flat_map, get_or, codes, decimal, ◌==◌, nat_le, if◌then◌else◌}
+-- The characters that a page's own table has no room for, and those that a fixed one shows by their numbers, and how they are reported.
+use Rattle.std.specs.Prelude.{◌≡◌, ℕ, ◌-◌, ◌/◌, ◌%◌, List, [], ◌∷◌, ◌++◌, length, take, flat_map, get_or, codes, decimal, Bool, ◌==◌, ◌||◌, nat_le, if◌then◌else◌}
 use Rattle.std.specs.List.{concat}
+use Rattle.std.specs.Str.{bytes_eq}
+use Rattle.preconv_converter.specs.Likeness.{likeness}
+use Rattle.preconv_converter.specs.declared.target.Target.{Target}
 use Rattle.utf8_own_characters.specs.declared.cluster.Cluster.{Cluster}
 use Rattle.utf8_own_characters.specs.declared.counting.Count.{Count}
 use Rattle.utf8_own_characters.specs.Choosing.{Choice, chosen, is_in, nothing}
@@ -42,3 +45,21 @@ more_of n = if n == 0 then [] else concat (codes " and " ∷ decimal n ∷ codes
 -- THE FIRST EIGHT are named, and it is reported how many more there are
 abbrev pub names_of : List Cluster → List ℕ
 names_of cs = flat_map (λ c. codes " " ++ name_of c) (take 8 cs) ++ more_of (length cs - 8)
+
+-- ---- those that a fixed table shows by their numbers
+
+-- what a character looks like is `<U+540D>`
+abbrev pub is_numbered : Target → ℕ → Bool
+is_numbered target c = bytes_eq (likeness target c) (codes "<" ++ (number_of c ++ codes ">"))
+
+-- so it is of a letter, or of one of its marks
+abbrev pub has_number : Target → Cluster → Bool
+has_number target c =
+    is_numbered target c.letter || is_numbered target c.first_mark || is_numbered target c.second_mark
+    || is_numbered target c.third_mark
+
+-- THOSE OF WHICH A TABLE HAS NEITHER A BYTE NOR A LIKENESS
+abbrev pub numbered : Target → List Count → List Cluster
+numbered target [] = []
+numbered target (x ∷ xs) =
+    if has_number target x.cluster then x.cluster ∷ numbered target xs else numbered target xs

@@ -5,15 +5,16 @@ ghost use Rattle.utf8_own_characters.specs.Choosing.{choice, chosen, left_out, n
 ghost use Rattle.utf8_own_characters.specs.Counting.{is_once};
 ghost use Rattle.utf8_own_characters.specs.Ranking.{ranked};
 ghost use Rattle.utf8_own_characters.specs.Table.{Good};
-ghost use Rattle.utf8_own_page.specs.Lacking.{left_of, names_of};
+ghost use Rattle.utf8_own_page.specs.Lacking.{left_of, names_of, numbered};
 ghost use Rattle.utf8_own_page.specs.Looking.{counts_of};
 ghost use Rattle.utf8_own_page.specs.Needing.{IsMadeOf};
 
-use super::lacking::{lacking, names_of};
+use super::lacking::{lacking, names_of, numbered};
 use super::looking::{MOST_COUNTED, SLOTS, look_at_page};
 use super::making::table_of;
 use nr_units::source::Source;
 use nr_vectors::slice_vec::SliceVec;
+use preconv_converter::Target;
 use std::alloc::{AllocError, Global};
 use std::marker::Model;
 use utf8_own_characters::{
@@ -60,6 +61,24 @@ fn in_order(alloc: Global, counts: &[Count]) -> Result<Vec<Count>, AllocError>
     let mut kept = Vec::with_capacity(alloc, counts.len())?;
     kept.extend_from_slice(order.as_slice())?;
     Ok(kept)
+}
+
+/// Names those of these counts that a fixed table shows by their numbers: the most frequent eight, and how many more there are. There is
+/// nothing where it has a byte or a likeness of each.
+///
+/// Proved: What is reported of characters that a fixed table shows by their numbers are those of the most frequent eight that were
+/// counted and that look like nothing else, and how many more there are. (`names_of_numbered`; `numbered` in Lacking.antt)
+pub fn names_of_numbered(
+    alloc: Global,
+    target: Target,
+    counts: &[Count],
+) -> Result<Vec<u8>, AllocError>
+    requires { is_once counts.now ≡ true }
+    ensures { IfOk result (λ text. text.items ≡ names_of (numbered target (ranked counts.now))) }
+{
+    let order = in_order(alloc, counts)?;
+    let cells = numbered(alloc, target, &order)?;
+    names_of(alloc, &cells)
 }
 
 /// The characters of a page's own table, and where to look first.

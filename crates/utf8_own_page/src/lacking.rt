@@ -1,12 +1,17 @@
-//! The characters that a page's own table has no room for are named.
+//! The characters that a page's own table has no room for, and those of which a fixed one has no likeness, are named.
 ghost use Rattle.std.specs.Prelude.{◌≡◌, ◌++◌, IfOk, OnOk, codes, flat_map};
 ghost use Rattle.utf8_own_characters.specs.Choosing.{choice, is_in};
 ghost use Rattle.utf8_own_characters.specs.Table as characters;
 ghost use Rattle.utf8_own_page.specs.Lacking as specs;
 
 use itoa::Buffer;
+use nr_vectors::slice_vec::SliceVec;
+use preconv_converter::{Target, put_likeness};
 use std::alloc::{AllocError, Global};
 use utf8_own_characters::{Cluster, Count};
+
+/// The room for what a character looks like.
+const MOST_LIKE: usize = 24;
 
 /// The most that are named.
 const MOST_NAMED: usize = 8;
@@ -121,6 +126,49 @@ fn push_more(count: usize, text: &mut Vec<u8>) -> Result<(), AllocError>
     text.extend_from_slice(b" and ")?;
     text.extend_from_slice(digits.format(count).as_bytes())?;
     text.extend_from_slice(b" more")
+}
+
+/// Whether what a character looks like is its number between `<` and `>`.
+fn is_numbered(target: Target, character: char, text: &mut Vec<u8>) -> Result<bool, AllocError>
+    ensures { IfOk result (λ is. is ≡ specs.is_numbered target character) }
+{
+    let mut room = [0; MOST_LIKE];
+    let mut like = SliceVec::over(&mut room);
+    put_likeness(u32::from(character), target, &mut like);
+    text.clear();
+    text.push(b'<')?;
+    push_number(character, text)?;
+    text.push(b'>')?;
+    Ok(like.as_slice() == text.as_slice())
+}
+
+/// Whether so it is of a letter or of one of its marks.
+fn has_number(target: Target, cluster: &Cluster, text: &mut Vec<u8>) -> Result<bool, AllocError>
+    ensures { IfOk result (λ has. has ≡ specs.has_number target cluster.now) }
+{
+    let letter = is_numbered(target, cluster.letter, text)?;
+    let first = is_numbered(target, cluster.first_mark, text)?;
+    let second = is_numbered(target, cluster.second_mark, text)?;
+    let third = is_numbered(target, cluster.third_mark, text)?;
+    Ok(letter || first || second || third)
+}
+
+/// Those of which so it is, in their order.
+pub(crate) fn numbered(
+    alloc: Global,
+    target: Target,
+    counts: &[Count],
+) -> Result<Vec<Cluster>, AllocError>
+    ensures { IfOk result (λ made. made.items ≡ specs.numbered target counts.now) }
+{
+    let mut text = Vec::new(alloc);
+    let mut made = Vec::new(alloc);
+    for count in counts {
+        if has_number(target, &count.cluster, &mut text)? {
+            made.push(count.cluster)?;
+        }
+    }
+    Ok(made)
 }
 
 /// The names of the first eight of these, and how many more there are.

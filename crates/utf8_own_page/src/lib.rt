@@ -10,6 +10,6 @@ mod making;
 mod needing;
 mod signs;
 
-pub use cells::{Cells, counted};
+pub use cells::{Cells, counted, names_of_numbered};
 pub use needing::{MORE_LOOKED_AT, has_all, lacks, may_need_own, prefix_of};
 pub use signs::signs_of;
