@@ -7,7 +7,6 @@ use Rattle.tbl_setting.specs.Drawing.{signs_of}
 use Rattle.tbl_stage.specs.Text as tbl
 use Rattle.utf8_own_characters.specs.Table.{Characters, Good}
 use Rattle.utf8_own_characters.specs.declared.counting.Count.{Count}
-use Rattle.utf8_own_page.specs.Lacking.{left_of, names_of}
 use Rattle.utf8_own_page.specs.Needing.{IsMadeOf, lacks}
 use Rattle.utf8_own_page.specs.Signs.{signs_for}
 use Rattle.document_reader.specs.Page.{IsShort, man_of, own_of, own_supply}
@@ -16,7 +15,7 @@ use Rattle.tbl_stage.specs.Memory.{limits_of}
 use Rattle.document_printing.specs.Showing.{Shows}
 use Rattle.document_printing.specs.declared.setup.Report.{Report}
 use Rattle.document_printing.specs.declared.showing.Showing.{Showing}
-use Rattle.program_command.specs.Own.{HasOwn, counts_of, may_need_own, names_in, needs_own, ranked_of, unshown_of}
+use Rattle.program_command.specs.Own.{HasOwn, counts_of, may_need_own, needs_own, ranked_of}
 use Rattle.program_command.specs.Printing.{AreAllShort, AreShort, FixedShows, Given, OwnShows, Printed, ShowsBy, TableShows, Where, fixed_showing, given_by, own_showing}
 use Rattle.program_command.specs.declared.plan.Plan.{Plan}
 use Rattle.program_command.specs.declared.printing.Means.{Means}
@@ -90,13 +89,6 @@ Printed-own plan first given q report held new own counts table is has made good
     let all : TableShows plan counts given q report held new = record { table = table; made = made; good = good; shows = shows } in
     subst (λ (b : Bool). ShowsBy b plan first given q report held new) (sym needs.0)
     (subst (λ (xs : List Count). TableShows plan xs given q report held new) needs.1 all)
-
-pub names-own : (plan : Plan) (first : List ℕ) (own : Option (List Count)) → HasOwn plan first own → names_in own ≡ unshown_of plan first
-names-own plan first None has =
-    ap (λ (b : Bool). if b then names_of (left_of (ranked_of plan first)) else []) (sym has)
-names-own plan first (Some counts) has =
-    ap (λ (xs : List Count). names_of (left_of xs)) has.1
-    ∙ ap (λ (b : Bool). if b then names_of (left_of (ranked_of plan first)) else []) (sym has.0)
 
 -- ---- where it is known what a page is to give
 

@@ -1,9 +1,10 @@
 -- Whether a page has a table of characters of its own, which, and what that lacks.
 use Rattle.std.specs.Prelude.{◌≡◌, ℕ, List, Bool, true, false, not, ◌&&◌, if◌then◌else◌, [], Option, None, Some}
+use Rattle.preconv_converter.specs.Targets.{target_of}
 use Rattle.preconv_converter.specs.declared.target.Target.TheVariants.{Utf8}
 use Rattle.utf8_own_characters.specs.declared.counting.Count.{Count}
 use Rattle.utf8_own_characters.specs.Ranking.{ranked}
-use Rattle.utf8_own_page.specs.Lacking.{left_of, names_of}
+use Rattle.utf8_own_page.specs.Lacking.{left_of, names_of, numbered}
 use Rattle.utf8_own_page.specs.Looking as looking
 use Rattle.utf8_own_page.specs.Needing as needing
 use Rattle.utf8_own_page.specs.Needing.{lacks}
@@ -33,11 +34,15 @@ HasOwn plan first (Some counts) = (needs_own plan first ≡ true) × (counts ≡
 
 -- ---- its characters that are not shown
 
--- those that a table of these lacks, as they are reported
-abbrev pub names_in : Option (List Count) → List ℕ
-names_in None = []
-names_in (Some counts) = names_of (left_of counts)
+-- a page that isn't printed in UTF-8 may have some that are shown by their numbers
+abbrev pub may_have_numbers : Plan → List ℕ → Bool
+may_have_numbers plan first = not plan.spells && (not plan.checks && needing.may_need_own first)
 
--- what is reported of a page: nothing where all are shown
+abbrev pub numbered_of : Plan → List ℕ → List ℕ
+numbered_of plan first =
+    if may_have_numbers plan first then names_of (numbered (target_of plan.characters) (ranked_of plan first)) else []
+
+-- WHAT IS REPORTED of a page: the characters that its own table lacks, or those that a fixed one shows by their numbers; nothing where
+-- there are none
 abbrev pub unshown_of : Plan → List ℕ → List ℕ
-unshown_of plan first = if needs_own plan first then names_of (left_of (ranked_of plan first)) else []
+unshown_of plan first = if needs_own plan first then names_of (left_of (ranked_of plan first)) else numbered_of plan first

@@ -5,7 +5,7 @@ ghost use Rattle.document_reader.specs.Page.{IsShort, man_of, plain_of};
 ghost use Rattle.preconv_converter.specs.declared.target.Target.TheVariants.{Utf8};
 ghost use Rattle.utf8_own_characters.specs.Counting.{is_once};
 ghost use Rattle.utf8_own_characters.specs.Table.{Good};
-ghost use Rattle.program_command.specs.Own.{HasOwn, counts_of, may_need_own, names_in};
+ghost use Rattle.program_command.specs.Own.{HasOwn, counts_of, may_have_numbers, may_need_own, numbered_of, unshown_of};
 ghost use Rattle.program_command.specs.Printing.{AreShort, OwnShows, Printed, Where, given_by, own_showing};
 
 use crate::plan::Plan;
@@ -18,7 +18,7 @@ use nr_vectors::CountedAlloc;
 use preconv_converter::Target;
 use std::alloc::{AllocError, Global};
 use utf8_own_characters::{Count, Table};
-use utf8_own_page::{Cells, counted, lacks, signs_of};
+use utf8_own_page::{Cells, counted, lacks, names_of_numbered, signs_of};
 
 /// The bytes of characters that go out at once.
 const ROOM: usize = 2_048;
@@ -64,13 +64,42 @@ pub(crate) fn own_cells(
     Ok(Some(Cells::of(alloc, &counts)?))
 }
 
-/// Names the characters that the table of a page's own lacks; there is nothing where it has all, or the page has none.
-pub(crate) fn unshown(own: &Option<Cells>, alloc: Global) -> Result<Vec<u8>, AllocError>
-    ensures { IfOk result (λ names. names.items ≡ names_in own.now) }
+/// Whether a page that isn't printed in UTF-8 may have characters that are shown by their numbers.
+fn may_have_numbers(plan: &Plan, prefix: &[u8]) -> bool
+    ensures { result ≡ may_have_numbers plan.now prefix.now }
+{
+    !plan.spells && !plan.checks && utf8_own_page::may_need_own(prefix)
+}
+
+/// Names the characters of a page that begins with these bytes which are shown by their numbers; there is nothing where UTF-8 is printed.
+fn numbered(plan: &Plan, prefix: &[u8], alloc: Global) -> Result<Vec<u8>, AllocError>
+    ensures { AreShort plan.now.stages prefix.now → IfOk result (λ names. names.items ≡ numbered_of plan.now prefix.now) }
+{
+    if !may_have_numbers(plan, prefix) {
+        return Ok(Vec::new(alloc));
+    }
+    let counts = count_prefix(plan, prefix, alloc)?;
+    names_of_numbered(alloc, Target::of(plan.characters), &counts)
+}
+
+/// Names the characters of a page that are not shown as themselves, nor by what they look like: those that the table of its own lacks, if
+/// it has one, else those that its fixed table shows by their numbers.
+///
+/// Proved: Where a page has no table of its own and is printed in ASCII or Latin-1, the characters that are reported are those that came
+/// in the bytes of it that were looked at and of which the table has neither a byte nor a likeness, so that they are shown by their
+/// numbers. (`unshown`; `unshown_of` in Own.antt)
+pub(crate) fn unshown(
+    own: &Option<Cells>,
+    plan: &Plan,
+    prefix: &[u8],
+    alloc: Global,
+) -> Result<Vec<u8>, AllocError>
+    ensures { AreShort plan.now.stages prefix.now → HasOwn plan.now prefix.now own.now →
+        IfOk result (λ names. names.items ≡ unshown_of plan.now prefix.now) }
 {
     match own {
         Some(cells) => cells.left_out(alloc),
-        None => Ok(Vec::new(alloc)),
+        None => numbered(plan, prefix, alloc),
     }
 }
 

@@ -114,7 +114,8 @@ fn borrowed(words: &[String], alloc: Global) -> Result<Vec<&str>, AllocError> {
 /// names, after what words set and macro files, through the stages that words or the text ask for, in the table of
 /// characters that `print_by_plan` chooses, for the first page, the pages, the looks and the limits of the words. Status
 /// and line report how that document ended, and the line of the text that was read last, or the first text of the folder
-/// that was left out, or the characters that the table of its own has no room for. So it is where the text and what each stage makes of it have less than 2^40 bytes; the text breaks
+/// that was left out, or the characters that are not shown: those that the table of its own has no room for, or that are shown
+/// by their numbers in ASCII and Latin-1. So it is where the text and what each stage makes of it have less than 2^40 bytes; the text breaks
 /// off nowhere. (`run_words`; `ComesToPages` in Program.antt, `Runs` in Running.antt, `Printed` in Printing.antt)
 /// Proved: Nothing goes out where a job isn't run, where a macro file fails or memory is wanting before its page, and
 /// where texts are only checked. Where words ask not to print a text that asks for other programs, 6 tells such a text,

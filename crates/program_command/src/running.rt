@@ -7,7 +7,7 @@ ghost use Rattle.program_options.specs.Job.{asked_of};
 ghost use Rattle.program_plan.specs.Kinds.{is_manual};
 ghost use Rattle.program_plan.specs.Macros.{macros_of};
 ghost use Rattle.program_plan.specs.Texts.{macro_names};
-ghost use Rattle.program_command.specs.Own.{HasOwn, names_in};
+ghost use Rattle.program_command.specs.Own.{HasOwn, unshown_of};
 ghost use Rattle.program_command.specs.Plan.{AreOptions, IsSelected, plan_of};
 ghost use Rattle.program_command.specs.Printing.{AreShort};
 ghost use Rattle.program_command.specs.Program.{IsOfRun, Passes};
@@ -268,7 +268,7 @@ struct Ready {
     plan: Plan,
     /// The characters of its own table, if it has one.
     own: Option<Cells>,
-    /// The names of the characters that it lacks.
+    /// The names of the characters that are not shown.
     unshown: Vec<u8>,
     options: Options,
     desk: Desk,
@@ -287,7 +287,8 @@ fn make_ready<T: Source + Drop>(
         ≡ plan_of (asked_of job.now) around.now (macros_of (is_manual prefix.now) (asked_of job.now)) prefix.now)) }
     ensures own { IfOk result (λ made. IfSome made (λ ready. AreShort ready.plan.stages prefix.now →
         HasOwn ready.plan prefix.now ready.own)) }
-    ensures unshown { IfOk result (λ made. IfSome made (λ ready. ready.unshown.items ≡ names_in ready.own)) }
+    ensures unshown { IfOk result (λ made. IfSome made (λ ready. AreShort ready.plan.stages prefix.now →
+        ready.unshown.items ≡ unshown_of ready.plan prefix.now)) }
     ensures macros { IfOk result (λ made. IfSome made (λ ready. AreMacros (asked_of job.now)
         (macros_of (is_manual prefix.now) (asked_of job.now)) (files_supply (map T.supply macros.old)) ready.before.items)) }
     ensures options { IfOk result (λ made. IfSome made (λ ready. AreOptions (asked_of job.now) ready.plan ready.options)) }
@@ -300,7 +301,7 @@ fn make_ready<T: Source + Drop>(
     }
     let plan = plan_of(job, kind, around, prefix)?;
     let own = own_cells(&plan, prefix, around.alloc)?;
-    let unshown = unshown(&own, around.alloc)?;
+    let unshown = unshown(&own, &plan, prefix, around.alloc)?;
     let desk = Desk::new(&mut CountedAlloc::new(around.alloc), job.limits)?;
     let options = options_of(job, &plan, select);
     Ok(Some(Ready {

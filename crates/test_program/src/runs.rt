@@ -202,7 +202,7 @@ here              today              A(1)\n",
 ];
 
 /// What is reported.
-static REPORTED: [Case; 25] = [
+static REPORTED: [Case; 28] = [
     // what is wrong in the texts, where words ask for it: of pages of mdoc, and of tables
     Case {
         words: &[b"nulbiko", b"-z", b"--warnings", b"b.1", b"-"],
@@ -339,6 +339,28 @@ static REPORTED: [Case; 25] = [
         output: b"",
         status: 0,
         line: b"nulbiko: -: characters not shown: U+0071+U+0303 U+540D U+03B1 U+03B2 U+03B3 U+03B4 U+03B5 U+03B6 and 2 more\n",
+    },
+    // characters that look like nothing in ASCII and in Latin-1, and some that do
+    Case {
+        words: &[b"nulbiko", b"-Tascii"],
+        input: b".pl 1\n\xe1\xbc\x81 \xe5\x90\x8d \xc5\x99 \xe5\x90\x8d \xce\xb1\n",
+        output: b"<U+1F01> <U+540D> r <U+540D> <alpha>\n",
+        status: 0,
+        line: b"nulbiko: -: characters not shown: U+540D U+1F01\n",
+    },
+    Case {
+        words: &[b"nulbiko", b"-Tlatin1"],
+        input: b".pl 1\n\xc3\xa9 \xc5\x99 \\[u540D]\n",
+        output: b"\xe9 r <U+540D>\n",
+        status: 0,
+        line: b"nulbiko: -: characters not shown: U+540D\n",
+    },
+    Case {
+        words: &[b"nulbiko", b"-Tascii"],
+        input: b".pl 1\n\xc3\xa9 \xc5\x99\n",
+        output: b"e r\n",
+        status: 0,
+        line: b"",
     },
     // a page that names another
     Case {

@@ -5,7 +5,6 @@ use Rattle.program_plan.specs.Kinds.{is_manual}
 use Rattle.program_plan.specs.Macros.{macros_of}
 use Rattle.program_command.specs.Own.{unshown_of}
 use Rattle.program_command.specs.Running.{AreMacros, IsReported}
-use Rattle.program_command.proofs.Shown.{names-own}
 use Rattle.program_command.proofs.Texts.{PrefixGives-of}
 use Rattle.program_command.proofs.running.run_prefix.Goals as goal
 
@@ -24,4 +23,4 @@ returns-in-Ok-printed-clause-prints g c =
     (rw c.in-Ok-printed.is at prints)
     (λ short. subst (λ (n : List ℕ). IsReported n (unshown_of ready.plan first) c.in-Ok-printed.report c.ending_of.result) c.first_name-name.ensures
     (subst (λ (u : List ℕ). IsReported c.first_name-name.result.now u c.in-Ok-printed.report c.ending_of.result)
-    ((rw c.in-Some.is at c.in-Ok.ensures.unshown) ∙ names-own ready.plan first ready.own (own short)) c.ending_of.ensures.reported))
+    (rw c.in-Some.is at c.in-Ok.ensures.unshown short) c.ending_of.ensures.reported))
