@@ -4,11 +4,9 @@ ghost use Rattle.std.specs.List.{insert, remove};
 
 use crate::counted_alloc::CountedAlloc;
 use crate::reserved_vec::ReservedVec;
+use crate::slots;
 use std::alloc::AllocError;
 use std::marker::Model;
-
-/// How many items are copied at once where no more than so many are added.
-const CHUNK: usize = 8;
 
 /// Items, and room for a number of them that stays. Memory for all of them is taken by `new`, the only call that allocates,
 /// and touched as items come.
@@ -144,8 +142,7 @@ impl<T: Copy> FixedVec<T> {
     {
         let end = self.len + more.len();
         fit(&mut self.slots, self.len, end, more);
-        let slots = self.slots.as_mut_slice();
-        slots[self.len..end].copy_from_slice(more);
+        slots::add(self.slots.as_mut_slice(), self.len, more);
         self.len = end;
     }
 
@@ -158,11 +155,8 @@ impl<T: Copy> FixedVec<T> {
         ensures items { self.new.items ≡ self.old.items ++ take n more.now }
         ensures room { self.new.capacity ≡ self.old.capacity }
     {
-        let len = self.len;
-        if n <= CHUNK && more.len() >= CHUNK && self.slots.len() - len >= CHUNK {
-            let slots = self.slots.as_mut_slice();
-            slots[len..len + CHUNK].copy_from_slice(&more[..CHUNK]);
-            self.len = len + n;
+        if slots::add_few(self.slots.as_mut_slice(), self.len, more, n) {
+            self.len += n;
             return;
         }
         self.extend(&more[..n]);
@@ -175,17 +169,11 @@ impl<T: Copy> FixedVec<T> {
         ensures items { self.new.items ≡ self.old.items ++ replicate n item }
         ensures room { self.new.capacity ≡ self.old.capacity }
     {
-        let len = self.len;
-        if n <= CHUNK && self.slots.len() - len >= CHUNK {
-            let slots = self.slots.as_mut_slice();
-            slots[len..len + CHUNK].copy_from_slice(&[item; CHUNK]);
-            self.len = len + n;
-            return;
+        if !slots::add_few_copies(self.slots.as_mut_slice(), self.len, item, n) {
+            self.slots.lengthen(self.len + n, item);
+            slots::add_copies(self.slots.as_mut_slice(), self.len, item, n);
         }
-        self.slots.lengthen(len + n, item);
-        let slots = self.slots.as_mut_slice();
-        set_all(&mut slots[len..len + n], item);
-        self.len = len + n;
+        self.len += n;
     }
 
     /// Adds copies of an item, and after them the first n of these items. A few more of both are written than are added where
@@ -197,17 +185,8 @@ impl<T: Copy> FixedVec<T> {
         ensures items { self.new.items ≡ self.old.items ++ replicate copies item ++ take n more.now }
         ensures room { self.new.capacity ≡ self.old.capacity }
     {
-        let len = self.len;
-        if copies <= CHUNK
-            && n <= CHUNK
-            && more.len() >= CHUNK
-            && self.slots.len() - len >= 2 * CHUNK
-        {
-            let slots = self.slots.as_mut_slice();
-            let near = &mut slots[len..len + 2 * CHUNK];
-            near[..CHUNK].copy_from_slice(&[item; CHUNK]);
-            near[copies..copies + CHUNK].copy_from_slice(&more[..CHUNK]);
-            self.len = len + copies + n;
+        if slots::add_few_after_copies(self.slots.as_mut_slice(), self.len, item, copies, more, n) {
+            self.len += copies + n;
             return;
         }
         self.extend_copies(item, copies);
@@ -222,11 +201,9 @@ impl<T: Copy> FixedVec<T> {
         ensures items { self.new.items ≡ insert self.old.items place item }
         ensures room { self.new.capacity ≡ self.old.capacity }
     {
-        let len = self.len;
-        self.slots.lengthen(len + 1, item);
-        self.slots.copy_within(place..len, place + 1);
-        self.slots[place] = item;
-        self.len = len + 1;
+        self.slots.lengthen(self.len + 1, item);
+        slots::insert_item(self.slots.as_mut_slice(), self.len, place, item);
+        self.len += 1;
     }
 
     /// Takes the item at a place away.
@@ -236,9 +213,8 @@ impl<T: Copy> FixedVec<T> {
         ensures items { self.new.items ≡ remove self.old.items place }
         ensures room { self.new.capacity ≡ self.old.capacity }
     {
-        let len = self.len;
-        self.slots.copy_within(place + 1..len, place);
-        self.len = len - 1;
+        slots::remove_item(self.slots.as_mut_slice(), self.len, place);
+        self.len -= 1;
     }
 
     /// Keeps the first n items.
@@ -275,14 +251,5 @@ fn fit<T: Copy>(slots: &mut ReservedVec<T>, len: usize, end: usize, more: &[T])
 {
     if end > slots.len() {
         slots.lengthen(end, more[0]);
-    }
-}
-
-/// Puts the item everywhere.
-fn set_all<T: Copy>(slots: &mut [T], item: T)
-    ensures { slots.new ≡ replicate (length slots.old) item }
-{
-    for slot in slots.iter_mut() {
-        *slot = item;
     }
 }

@@ -1,7 +1,7 @@
 //! Vectors that never grow past the room that they were given: over a slice that is lent, or with memory that is taken once
 //! for as many items as there may ever be. What isn't used of that isn't touched. And `Cell`, what output lines are vectors of.
 //!
-//! It stands on no crate of the repository. To read: `cell`, `slice_vec`; `counted_alloc`, `reserved_vec`, `reserved_array`, `fixed_vec`.
+//! It stands on no crate of the repository. To read: `cell`, `slots`, `slice_vec`; `counted_alloc`, `reserved_vec`, `reserved_array`, `fixed_vec`.
 //!
 //! Proved: The invariant that the capacity is that of its vector, and a call `memory` that asks the vector, have also
 //! `Pool` (nr_pool: `Pool::{element_memory, text_memory}`), `Queue` (nr_fill), `Stack` (nr_levels) and `GapVec`
@@ -15,6 +15,7 @@ mod fixed_vec;
 mod reserved_array;
 mod reserved_vec;
 pub mod slice_vec;
+mod slots;
 
 pub use counted_alloc::CountedAlloc;
 pub use fixed_vec::FixedVec;

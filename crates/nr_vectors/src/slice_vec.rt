@@ -4,10 +4,8 @@ ghost use Rattle.std.specs.List.{insert, remove};
 ghost use Rattle.nr_vectors.specs.declared.cell.Cell.{Cell as CellValue};
 
 use crate::cell::Cell;
+use crate::slots;
 use std::marker::Model;
-
-/// How many items are copied at once where no more than so many are added.
-const CHUNK: usize = 8;
 
 /// Items in a slice that is lent, from its start on. What lies after them is of no account.
 ///
@@ -150,9 +148,8 @@ impl<'a, T: Copy> SliceVec<'a, T> {
         ensures items { self.new.items ≡ self.old.items ++ more.now }
         ensures room { self.new.capacity ≡ self.old.capacity }
     {
-        let end = self.len + more.len();
-        self.slots[self.len..end].copy_from_slice(more);
-        self.len = end;
+        slots::add(self.slots, self.len, more);
+        self.len += more.len();
     }
 
     /// Adds the first n of these items. A few more are copied than are added where there is room on
@@ -164,10 +161,8 @@ impl<'a, T: Copy> SliceVec<'a, T> {
         ensures items { self.new.items ≡ self.old.items ++ take n more.now }
         ensures room { self.new.capacity ≡ self.old.capacity }
     {
-        let len = self.len;
-        if n <= CHUNK && more.len() >= CHUNK && self.slots.len() - len >= CHUNK {
-            self.slots[len..len + CHUNK].copy_from_slice(&more[..CHUNK]);
-            self.len = len + n;
+        if slots::add_few(self.slots, self.len, more, n) {
+            self.len += n;
             return;
         }
         self.extend(&more[..n]);
@@ -180,14 +175,10 @@ impl<'a, T: Copy> SliceVec<'a, T> {
         ensures items { self.new.items ≡ self.old.items ++ replicate n item }
         ensures room { self.new.capacity ≡ self.old.capacity }
     {
-        let len = self.len;
-        if n <= CHUNK && self.slots.len() - len >= CHUNK {
-            self.slots[len..len + CHUNK].copy_from_slice(&[item; CHUNK]);
-            self.len = len + n;
-            return;
+        if !slots::add_few_copies(self.slots, self.len, item, n) {
+            slots::add_copies(self.slots, self.len, item, n);
         }
-        set_all(&mut self.slots[len..len + n], item);
-        self.len = len + n;
+        self.len += n;
     }
 
     /// Puts an item before the one at a place, or at the end.
@@ -198,11 +189,8 @@ impl<'a, T: Copy> SliceVec<'a, T> {
         ensures items { self.new.items ≡ insert self.old.items place item }
         ensures room { self.new.capacity ≡ self.old.capacity }
     {
-        let len = self.len;
-        let slots = &mut *self.slots;
-        slots.copy_within(place..len, place + 1);
-        slots[place] = item;
-        self.len = len + 1;
+        slots::insert_item(self.slots, self.len, place, item);
+        self.len += 1;
     }
 
     /// Takes the item at a place away.
@@ -212,10 +200,8 @@ impl<'a, T: Copy> SliceVec<'a, T> {
         ensures items { self.new.items ≡ remove self.old.items place }
         ensures room { self.new.capacity ≡ self.old.capacity }
     {
-        let len = self.len;
-        let slots = &mut *self.slots;
-        slots.copy_within(place + 1..len, place);
-        self.len = len - 1;
+        slots::remove_item(self.slots, self.len, place);
+        self.len -= 1;
     }
 
     /// Takes the first n items away.
@@ -261,15 +247,6 @@ impl<'a> SliceVec<'a, u8> {
         let end = self.len + cells.len();
         set_bytes(&mut self.slots[self.len..end], cells);
         self.len = end;
-    }
-}
-
-/// Puts the item everywhere.
-fn set_all<T: Copy>(slots: &mut [T], item: T)
-    ensures { slots.new ≡ replicate (length slots.old) item }
-{
-    for slot in slots.iter_mut() {
-        *slot = item;
     }
 }
 

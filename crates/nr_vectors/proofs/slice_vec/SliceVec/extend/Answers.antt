@@ -1,6 +1,0 @@
-use Rattle.std.proofs.Common.{arith}
-use Rattle.std.proofs.lemmas.Grind.{common_steps}
-use Rattle.nr_vectors.proofs.slice_vec.SliceVec.extend.Goals as goal
-
-pub returns-clause-items : goal.returns-clause-items
-returns-clause-items g c = grind (arith, common_steps)

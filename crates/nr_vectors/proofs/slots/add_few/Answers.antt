@@ -1,0 +1,16 @@
+use Rattle.std.proofs.Common.{◌≡◌, ◌++◌, length, take, ap, ◌∙◌, arith}
+use Rattle.std.proofs.lemmas.List.{take-take, length-take-le}
+use Rattle.nr_vectors.proofs.Copying.{prefix_put}
+use Rattle.nr_vectors.proofs.slots.add_few.Goals as goal
+
+pub returns-then-slots-len-ge-CHUNK-clause-items : goal.returns-then-slots-len-ge-CHUNK-clause-items
+returns-then-slots-len-ge-CHUNK-clause-items g c written =
+    let xs = c.args.slots.now in
+    let ys = c.copy_from_slice.new.self in
+    let more = c.args.more.now in
+    let n = c.args.n in
+    let few = c.if-n-le-CHUNK.true in
+    let copied : ys ≡ take 8 more = c.copy_from_slice.ensures.after in
+    let long : length ys ≡ 8 = ap length copied ∙ length-take-le 8 more (omega (arith, c.if-more-ge-CHUNK.true)) in
+    prefix_put c.args.len _ n xs ys c.requires (omega (arith, long, few))
+    ∙ ap (λ zs. take c.args.len xs ++ zs) (ap (take n) copied ∙ take-take n 8 more (omega (arith, few)))
