@@ -3,7 +3,7 @@ use Prim.Native.Char.{code}
 use Rattle.std.specs.List.{flat_map, range_with_len}
 use Rattle.std.proofs.Common.{◌≡◌, ℕ, ◌==◌, ◌||◌, ◌&&◌, Bool, true, false, if◌then◌else◌, List, [], ◌∷◌, ◌++◌, append-nil, append_assoc, max, refl, sym, ◌∙◌, ap, subst}
 use Rattle.nr_vectors.specs.declared.cell.Look.TheVariants.{Plain}
-use Rattle.utf8_characters.specs.declared.table.Table.{Table}
+use Rattle.utf8_characters.specs.declared.table.FixedTable.{FixedTable}
 use Rattle.nr_page.specs.Grid.{Placed}
 use Rattle.nr_page.specs.PageBytes.{page_bytes, row_bytes, row_cells, row_count}
 use Rattle.nr_page.specs.Faces.{cell_bytes}
@@ -102,11 +102,11 @@ fed_quiet r prefix =
 fed_ends : (r : Reader) (xs prefix : List ℕ) → xs ≡ prefix ++ code "\n" ∷ [] → (ended (fed r xs).reader).bytes ≡ []
 fed_ends r xs prefix is = ap (λ (z : List ℕ). (ended (fed r z).reader).bytes) is ∙ quiet_ends (fed r (prefix ++ code "\n" ∷ [])).reader (fed_quiet r prefix)
 
-none_converted : (table : Table) (escapes : Bool) → converted table escapes [] ≡ []
+none_converted : (table : FixedTable) (escapes : Bool) → converted table escapes [] ≡ []
 none_converted table true = refl
 none_converted table false = refl
 
-pub lines-prefix : (table : Table) (escapes : Bool) (xs more : List ℕ) → AreLines xs → IsPrefixOf (converted table escapes xs) (converted table escapes (xs ++ more))
+pub lines-prefix : (table : FixedTable) (escapes : Bool) (xs more : List ℕ) → AreLines xs → IsPrefixOf (converted table escapes xs) (converted table escapes (xs ++ more))
 lines-prefix table escapes xs more (None_is x is) = record {
   rest = converted table escapes (xs ++ more);
   whole_is = ap (λ (z : List ℕ). z ++ converted table escapes (xs ++ more)) (sym (ap (λ (z : List ℕ). converted table escapes z) is ∙ none_converted table escapes));

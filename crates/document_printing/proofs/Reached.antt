@@ -6,7 +6,7 @@ use Rattle.nr_units.specs.Failures.{SinkFailures, next_count, no_failures}
 use Rattle.nr_units.specs.Sink.{AppendsPrefix}
 use Rattle.nr_units.specs.Source.{Supply}
 use Rattle.nr_units.specs.declared.source.Fault.{Fault}
-use Rattle.utf8_characters.specs.declared.table.Table.{Table}
+use Rattle.utf8_characters.specs.declared.table.FixedTable.{FixedTable}
 use Rattle.nr_machine.specs.declared.outcome.Outcome as machine
 use Rattle.nr_machine.specs.declared.outcome.Outcome.TheVariants as machines
 use Rattle.utf8_converter.specs.Cells as fixed
@@ -200,13 +200,13 @@ own-ended w m before bytes puts new after x is first shows broke fails = record 
 
 -- ---- a text for a terminal
 
-text_of : (table : Table) (escapes : Bool) (pages bytes : List ℕ) → bytes ≡ [] ++ fixed.converted table escapes pages → IsText escapes bytes
+text_of : (table : FixedTable) (escapes : Bool) (pages bytes : List ℕ) → bytes ≡ [] ++ fixed.converted table escapes pages → IsText escapes bytes
 text_of table escapes pages bytes is =
     let P : List ℕ → Type 0 = λ xs. IsText escapes xs in
     let lines = converted-lines table escapes pages in
     subst P (sym is) lines.text
 
-pub reached : (s : Setting) (table : Table) (escapes : Bool) (source : Supply) (n : ℕ) (o : PageEnd) (bytes : List ℕ)
+pub reached : (s : Setting) (table : FixedTable) (escapes : Bool) (source : Supply) (n : ℕ) (o : PageEnd) (bytes : List ℕ)
     → is_whole o ≡ true → Shows s (Utf8 (Fixed table) escapes) source n o (Some []) (Some bytes) → IsText escapes bytes
 reached s table escapes source n outcomes.Done bytes all shows = text_of table escapes (pages_of s source n) bytes shows.out
 reached s table escapes source n (outcomes.Limit which at) bytes all shows = text_of table escapes (pages_of s source n) bytes shows.out
@@ -215,7 +215,7 @@ reached s table escapes source n outcomes.ReadFault bytes all shows = absurd (le
 reached s table escapes source n outcomes.TooLong bytes all shows = absurd (let never : false ≡ true = all in cc)
 reached s table escapes source n outcomes.WriteFault bytes all shows = absurd (let never : false ≡ true = all in cc)
 
-pub cut-reached : (s : Setting) (table : Table) (escapes : Bool) (source : Supply) (n : ℕ) (bytes : List ℕ)
+pub cut-reached : (s : Setting) (table : FixedTable) (escapes : Bool) (source : Supply) (n : ℕ) (bytes : List ℕ)
     → Shows s (Utf8 (Fixed table) escapes) source n outcomes.WriteFault (Some []) (Some bytes) → IsPrefixOfText escapes bytes
 cut-reached s table escapes source n bytes shows =
     let prefix = shows.prefix in
@@ -223,5 +223,5 @@ cut-reached s table escapes source n bytes shows =
     let lines = converted-lines table escapes (pages_of s source shows.made) in
     record { rest = prefix.1; text = subst P (prefix.2 ∙ ap (λ (xs : List ℕ). xs ++ prefix.1) (sym prefix.3)) lines.text }
 
-pub lines-stay : (s : Setting) (table : Table) (escapes : Bool) (source : Supply) (n : ℕ) → KeepsLines table escapes (pages_of s source n) (document s (Utf8 (Fixed table) escapes) source n)
+pub lines-stay : (s : Setting) (table : FixedTable) (escapes : Bool) (source : Supply) (n : ℕ) → KeepsLines table escapes (pages_of s source n) (document s (Utf8 (Fixed table) escapes) source n)
 lines-stay s table escapes source n = converted-lines table escapes (pages_of s source n)

@@ -14,9 +14,9 @@ use nr_units::sink::Sink;
 use nr_units::source::Source;
 use tbl_setting::Complaint;
 use tbl_stage::Rooms;
-use utf8_characters::Table;
+use utf8_characters::FixedTable;
 use utf8_converter::Shown;
-use utf8_own_characters::Table as OwnTable;
+use utf8_own_characters::OwnTable;
 use utf8_own_sink::Shown as OwnShown;
 
 /// How many bytes of UTF-8 wait to go out at once.
@@ -26,7 +26,7 @@ const ROOM: usize = 4096;
 #[derive(Clone, Copy)]
 pub enum PageTable<'a> {
     /// Those of a fixed table.
-    Fixed(Table),
+    Fixed(FixedTable),
     /// The page's own, of one column or two.
     Own(&'a OwnTable<'a>),
 }

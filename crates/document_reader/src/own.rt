@@ -10,7 +10,7 @@ use super::page::{PageText, Stages, Waits, read_page};
 use document_stages::Pull;
 use nr_units::source::Source;
 use preconv_converter::Target;
-use utf8_own_characters::Table;
+use utf8_own_characters::OwnTable;
 use utf8_own_stage::Coder;
 
 /// A page whose characters have become the bytes of its own table.
@@ -26,7 +26,7 @@ pub type OwnText<'a, R> = Pull<'a, PageText<'a, R>, Coder<'a>>;
 pub fn read_own_page<'a, R: Source + Drop>(
     input: R,
     stages: Stages,
-    table: &'a Table<'a>,
+    table: &'a OwnTable<'a>,
     waits: Waits<'a>,
     room: &'a mut [u8],
 ) -> OwnText<'a, R>

@@ -5,9 +5,9 @@ ghost use Rattle.document_stages.specs.Pulling.{broken_off};
 ghost use Rattle.document_reader.specs.Page.{IsShort, breaks_off, man_of, man_so_far, plain_so_far, plain_supply};
 
 use document_stages::{Ahead, Counted, Gathered, Pull, Switch};
-use mdoc_converter::{Block, Turner as Mdoc};
+use mdoc_converter::{Block, MdocConverter as Mdoc};
 use nr_units::source::Source;
-use preconv_converter::{Target, Turner as Characters};
+use preconv_converter::{PreconvConverter as Characters, Target};
 
 /// Which stages a page goes through. Each decides for itself what it turns: mdoc a page of mdoc(7) alone.
 #[derive(Clone, Copy, Debug, PartialEq, Eq)]

@@ -29,10 +29,10 @@ use Rattle.fast_input.specs.Target.{is_read_for, with_more}
 use Rattle.nr_input.specs.Weights.{diversions_in, diversions_of}
 use Rattle.fast_input.proofs.ControlLines.{done_read, pays_once}
 use Rattle.fast_input.proofs.Interpolated.{charge-reading, charge-more}
-use Rattle.fast_input.proofs.LevelRows.{left_times-add, rest-left_times}
+use Rattle.fast_input.proofs.LevelStretches.{left_times-add, rest-left_times}
 use Rattle.fast_input.proofs.PuttingLevel.{ArePrefix, charge-afterwards, level_added, level_added_pays}
 use Rattle.nr_input.proofs.Refusals.{acted-ok}
-use Rattle.fast_input.proofs.RowMoves.{reads_nothing}
+use Rattle.fast_input.proofs.StretchMoves.{reads_nothing}
 use Rattle.nr_input.proofs.Spending.{act_pays}
 use Rattle.fast_input.proofs.Targets.{with_more-none}
 

@@ -102,7 +102,7 @@ takes_in_second : (x : Bool) (h : Half) → h.notes.defining.keeps ≡ true → 
 takes_in_second true h keeps = rw (may_have 0 h.notes.defining (omega arith), keeps) refl
 takes_in_second false h keeps = rw keeps refl
 
--- ---- the first bytes of a row
+-- ---- the first bytes of a stretch
 
 module _ (bs : List ℕ) (h : Half) (keeps : h.notes.defining.keeps ≡ true) where
   abbrev fs : List NextItem

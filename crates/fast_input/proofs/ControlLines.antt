@@ -33,8 +33,8 @@ use Rattle.fast_input.specs.Runs.{HasRead, PaysAll, moves, emitted_last, after_r
 use Rattle.nr_input.specs.Weights.{Pays, byte_worth, diversions_in}
 use Rattle.fast_input.proofs.Putting.{Quietly}
 use Rattle.nr_input.proofs.Refusals.{acted-ok}
-use Rattle.fast_input.proofs.RowMoves.{Goings, at_source, source_goings, moves-row, goes-row, emitted-row, quiet-row}
-use Rattle.fast_input.proofs.RowsRead.{begins_there, source_looked, source_read, source_pays, looked_pays, burst_some, some_taken}
+use Rattle.fast_input.proofs.StretchMoves.{Goings, at_source, source_goings, moves-stretch, goes-stretch, emitted-stretch, quiet-stretch}
+use Rattle.fast_input.proofs.StretchesRead.{begins_there, source_looked, source_read, source_pays, looked_pays, burst_some, some_taken}
 use Rattle.nr_input.proofs.Spending.{act_pays}
 
 -- ---- moves after moves that tell nothing
@@ -74,17 +74,17 @@ then_read m n s t e v r q supply all read = record {
     last zero tells = let none : n ≡ 0 + n = omega arith in ap (λ k. emitted_last k s) (sym none) ∙ all.silent n (omega arith) ∙ tells
     last (suc m) tells = emitted_add m n s ∙ ap (emitted_last (suc m)) all.leads ∙ tells
 
--- a row that tells nothing
-row_quietly : {K : Type 0} (n taken : ℕ) (fs : List NextItem) (h k : Half) (at : Spot → Situation K) → Goings fs at → HasTakenIn n fs h (quiet taken k) → Quietly n (at (spot_after 0 fs h)) (at (quiet taken k))
-row_quietly n taken fs h k at g taken_in = record {
-  goes = λ j below. goes-row j n fs h at below g taken_in.goes;
+-- a stretch that tells nothing
+stretch_quietly : {K : Type 0} (n taken : ℕ) (fs : List NextItem) (h k : Half) (at : Spot → Situation K) → Goings fs at → HasTakenIn n fs h (quiet taken k) → Quietly n (at (spot_after 0 fs h)) (at (quiet taken k))
+stretch_quietly n taken fs h k at g taken_in = record {
+  goes = λ j below. goes-stretch j n fs h at below g taken_in.goes;
   silent = λ j within. elim (cases_lt j n) [
-    | inl below ↦ quiet-row j n fs h at below g taken_in.goes
+    | inl below ↦ quiet-stretch j n fs h at below g taken_in.goes
     | inr last ↦
         let same : n ≡ j = omega (arith, within, last) in
-        ap (λ i. emitted_last i (at (spot_after 0 fs h))) (sym same) ∙ emitted-row n fs h at g taken_in.goes ∙ ap (λ (p : Spot). tells.Event p.event) taken_in.leads
+        ap (λ i. emitted_last i (at (spot_after 0 fs h))) (sym same) ∙ emitted-stretch n fs h at g taken_in.goes ∙ ap (λ (p : Spot). tells.Event p.event) taken_in.leads
   ];
-  leads = moves-row n fs h at g taken_in.goes ∙ ap at taken_in.leads;
+  leads = moves-stretch n fs h at g taken_in.goes ∙ ap at taken_in.leads;
 }
 
 -- ---- what is pending is done
@@ -319,19 +319,19 @@ module _ {K : Type 0} (v w : Stored K) (r r2 : Reader) (bs : List ℕ) (m t : �
     -- ---- where they lead
 
     module _ (c : Coming) (levels : v.levels ≡ []) (next : ComeNext bs c) (long : t ≤ length bs) where
-      row_leads : Quietly m (situation v c r) (situation v (after_run t c) named)
-      row_leads =
+      stretch_leads : Quietly m (situation v c r) (situation v (after_run t c) named)
+      stretch_leads =
           let fs = map next_items.Byte bs in
           let some = some_taken t (λ none. omega (arith, none, many)) in
           let burst : burst_past c.taken (c.taken + t) r.burst ≡ 0 = ap (λ k. burst_past c.taken (c.taken + k) r.burst) some.1 ∙ burst_some c.taken some.0 r.burst in
           let there : at_source v c r (quiet t h1) ≡ situation v (after_run t c) named = ap (λ (n : ℕ). situation v (after_run t c) (record r { half = h1; burst = n })) burst in
           subst (λ x. Quietly m (situation v c r) x) there
           (subst (λ s. Quietly m s (at_source v c r (quiet t h1))) (begins_there v c r bs levels next)
-          (row_quietly m t fs r.half h1 (at_source v c r) (source_goings v c r bs levels next) name))
+          (stretch_quietly m t fs r.half h1 (at_source v c r) (source_goings v c r bs levels next) name))
 
       name_read : (q : Reached) (supply : Option Supply) → HoldsComing (after_run t c) q supply → HasRead (1 + m) (situation v c r) e w r2 q supply
       name_read q supply holds =
-          then_read 1 m (situation v c r) (situation v (after_run t c) named) e w r2 q supply row_leads
+          then_read 1 m (situation v c r) (situation v (after_run t c) named) e w r2 q supply stretch_leads
           (done_read v w (after_run t c) named r2 e (waits v w named r2 e pending_act seek) act_is q supply holds)
 
       same_levels : (m : Meaning) → (after_meaning m v).levels ≡ v.levels
@@ -343,7 +343,7 @@ module _ {K : Type 0} (v w : Stored K) (r r2 : Reader) (bs : List ℕ) (m t : �
 
       leads_quietly : e ≡ events.Nothing → Quietly (1 + m) (situation v c r) (situation w (after_run t c) r2)
       leads_quietly silent =
-          quietly_add 1 m (situation v c r) (situation v (after_run t c) named) (situation w (after_run t c) r2) row_leads (done_quietly v w (after_run t c) named r2 e (waits v w named r2 e pending_act seek) act_is silent)
+          quietly_add 1 m (situation v c r) (situation v (after_run t c) named) (situation w (after_run t c) r2) stretch_leads (done_quietly v w (after_run t c) named r2 e (waits v w named r2 e pending_act seek) act_is silent)
 
       line_read : (n : ℕ) (p : Spot) (q : Reached) (supply : Option Supply) → e ≡ events.Nothing → HasTakenIn n (map next_items.Byte (drop t bs)) r2.half p → 0 < p.taken
           → HoldsComing (after_run (t + p.taken) c) q supply → HasRead (n + (1 + m)) (situation v c r) p.event w (record r2 { half = p.half }) q supply

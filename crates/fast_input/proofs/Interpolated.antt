@@ -39,8 +39,8 @@ use Rattle.nr_input.specs.Weights.{items_in}
 use Rattle.fast_input.proofs.ControlLines.{then_read, quietly_add, done_quietly, pays_then, pays_once}
 use Rattle.fast_input.proofs.Putting.{Quietly, quiet, one_more, no_moves, has_read_quietly}
 use Rattle.fast_input.proofs.PuttingLevel.{ArePrefix, level_added, level_added_pays}
-use Rattle.fast_input.proofs.RowMoves.{reads_nothing}
-use Rattle.fast_input.proofs.RowsRead.{level_read, level_pays, bytes_are}
+use Rattle.fast_input.proofs.StretchMoves.{reads_nothing}
+use Rattle.fast_input.proofs.StretchesRead.{level_read, level_pays, bytes_are}
 use Rattle.nr_input.proofs.Spending.{act_pays}
 use Rattle.fast_input.proofs.Targets.{limit-with_more, nothing_added}
 

@@ -49,7 +49,7 @@ none_paid v p r = record {
   tells = refl;
 }
 
--- those of a row
+-- those of a stretch
 pub many_of_all : {K : Type 0} (n : ℕ) (v w : Stored K) (p q : Reached) (r s : Reader) (e : Event) → PaysAll n v p r e w q s → PaysMany n v p r e w q s
 many_of_all n v w p q r s e all = record {
   limit = all.limit;

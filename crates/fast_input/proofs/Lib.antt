@@ -8,7 +8,7 @@ pub mod FontEscapes
 pub mod Interpolated
 pub mod LevelLines
 pub mod LevelParts
-pub mod LevelRows
+pub mod LevelStretches
 pub mod LimitsStay
 pub mod Longest
 pub mod MacroBytes
@@ -16,8 +16,8 @@ pub mod MacroLines
 pub mod Putting
 pub mod PuttingLevel
 pub mod PuttingRead
-pub mod RowMoves
-pub mod RowsRead
+pub mod StretchMoves
+pub mod StretchesRead
 pub mod SplicesLie
 pub mod Targets
 pub mod TextBraces

@@ -21,11 +21,11 @@ use Rattle.nr_input.specs.Place.{Reached, element_item}
 use Rattle.fast_input.specs.Runs.{IsLongest, IsLongestInLevel}
 use Rattle.fast_input.specs.Target.{is_read_for, with_more}
 
--- no byte of the row stands there
+-- no byte of the stretch stands there
 abbrev pub NoByteAt : List ℕ → ℕ → Type 0
 NoByteAt bs k = (byte : ℕ) → slice_get (map next_items.Byte bs) k ≡ Some (next_items.Byte byte) → ⊥
 
--- so it is after the row
+-- so it is after the stretch
 after_all : (bs : List ℕ) (k : ℕ) → NoByteAt bs k → k < length bs → ⊥
 after_all bs k none less =
     none (slice_index bs k)

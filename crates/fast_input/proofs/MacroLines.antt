@@ -36,8 +36,8 @@ use Rattle.nr_input.proofs.LimitsStay.{act_stays}
 use Rattle.fast_input.proofs.LimitsStay.{with_more-limits}
 use Rattle.fast_input.proofs.PuttingRead.{source_added, source_added_pays}
 use Rattle.nr_input.proofs.Refusals.{called-ok, called-err}
-use Rattle.fast_input.proofs.RowMoves.{reads_nothing}
-use Rattle.fast_input.proofs.RowsRead.{after_none, source_looked, source_read, looked_pays, source_pays}
+use Rattle.fast_input.proofs.StretchMoves.{reads_nothing}
+use Rattle.fast_input.proofs.StretchesRead.{after_none, source_looked, source_read, looked_pays, source_pays}
 use Rattle.nr_input.proofs.Spending.{act_pays}
 use Rattle.fast_input.proofs.Targets.{levels-with_more, nothing_added}
 

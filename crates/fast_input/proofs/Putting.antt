@@ -19,7 +19,7 @@ use Rattle.nr_input.specs.Refusal.{answer, storing_by, storing_answer}
 use Rattle.nr_input.specs.Place.{Coming, Reached}
 use Rattle.nr_input.specs.Moving.{Situation, Move, Stands, situation, move, Goes, GoesBy}
 use Rattle.fast_input.specs.Runs.{HasRead, moves, emitted_last}
-use Rattle.fast_input.proofs.RowMoves.{Goings}
+use Rattle.fast_input.proofs.StretchMoves.{Goings}
 
 -- ---- moves that tell nothing
 
@@ -98,11 +98,11 @@ pub twice-is : (n : ℕ) → twice n ≡ 2 * n
 twice-is zero = refl
 twice-is (suc n) = omega (arith, twice-is n)
 
--- after so many items of a row
+-- after so many items of a stretch
 abbrev pub spot_at : ℕ → Half → Spot
 spot_at k h = record { taken = k; half = h; event = events.Nothing }
 
--- n bytes of a row can be added one after another, where so many were added
+-- n bytes of a stretch can be added one after another, where so many were added
 pub record Puttings {K : Type 0} (n : ℕ) (fs : List NextItem) (byte : ℕ → ℕ) (pending_act : ℕ → PendingAct) (h : Half) (at : ℕ → Spot → Situation K) : Type 0 where
   pub goings : (k : ℕ) → k < n → Goings fs (at k)
   pub takes_in : (k : ℕ) → k < n → take_in (next_items.Byte (byte k)) h ≡ record { half = next (pending_act k) h; event = events.Nothing; takes = true }

@@ -24,8 +24,8 @@ use Rattle.nr_input.specs.Moving.{Situation, Stands, situation}
 use Rattle.fast_input.specs.Runs.{HasRead, PaysAll, IsLeft}
 use Rattle.fast_input.specs.Target.{is_read_for, pending_for, with_more}
 use Rattle.nr_input.specs.Weights.{items_left, expansions_worth, diversions_in}
-use Rattle.fast_input.proofs.RowMoves.{at_level, with_rest, level_goings}
-use Rattle.fast_input.proofs.RowsRead.{items_after}
+use Rattle.fast_input.proofs.StretchMoves.{at_level, with_rest, level_goings}
+use Rattle.fast_input.proofs.StretchesRead.{items_after}
 use Rattle.fast_input.proofs.Longest.{rest_of-afterwards}
 use Rattle.fast_input.proofs.Putting.{quiet, has_read_quietly, Adds, goes_put, move-put, twice, twice-is, spot_at, Puttings, all_put}
 use Rattle.fast_input.proofs.Targets.{pending_act-is_read_for, take_in-plain, adds_byte, levels-with_more, limit-with_more, diversions-with_more, with_more-none, with_more-next, charge_of-some}

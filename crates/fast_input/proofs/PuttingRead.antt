@@ -21,8 +21,8 @@ use Rattle.nr_input.specs.Moving.{Situation, Stands, situation, burst_past}
 use Rattle.fast_input.specs.Runs.{HasRead, PaysAll, after_run}
 use Rattle.fast_input.specs.Target.{is_read_for, pending_for, with_more}
 use Rattle.nr_input.specs.Weights.{items_left, expansions_worth, diversions_in}
-use Rattle.fast_input.proofs.RowMoves.{at_source, source_goings}
-use Rattle.fast_input.proofs.RowsRead.{begins_there, burst_some, some_taken, newline_left-le, worth_more, pays_each}
+use Rattle.fast_input.proofs.StretchMoves.{at_source, source_goings}
+use Rattle.fast_input.proofs.StretchesRead.{begins_there, burst_some, some_taken, newline_left-le, worth_more, pays_each}
 use Rattle.fast_input.proofs.Putting.{has_read_quietly, Adds, goes_put, move-put, twice, twice-is, spot_at, Puttings, all_put}
 use Rattle.fast_input.proofs.Targets.{pending_act-is_read_for, take_in-plain, adds_byte, levels-with_more, limit-with_more, diversions-with_more, with_more-none, with_more-next, charge_of-some}
 

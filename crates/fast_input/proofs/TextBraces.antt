@@ -21,18 +21,18 @@ use Rattle.nr_reading.specs.Many.InText.{is_in_text, IsInText}
 use Rattle.nr_reading.specs.Many.Passing.{quiet}
 use Rattle.nr_reading.specs.Many.Runs.{HasTakenIn}
 use Rattle.nr_reading.proofs.InText.{in_text}
-use Rattle.nr_reading.proofs.Rows.{TakesInByte, nothing_taken_in, stays, taken_more}
+use Rattle.nr_reading.proofs.Stretches.{TakesInByte, nothing_taken_in, stays, taken_more}
 use Rattle.nr_input.specs.declared.reader.Reader.{Reader}
 use Rattle.fast_input.specs.declared.splices.Splice.{Splice}
 use Rattle.nr_input.specs.Place.{element_item}
 use Rattle.fast_input.specs.Gathering.{AreGathered, HasBrace, LeadsInText, Leaves, brace_items, last_asked, spliced}
-use Rattle.fast_input.proofs.LevelRows.{left_times-add, rest-left_times}
+use Rattle.fast_input.proofs.LevelStretches.{left_times-add, rest-left_times}
 use Rattle.fast_input.proofs.PuttingLevel.{charge-afterwards}
-use Rattle.fast_input.proofs.RowsRead.{level_read, level_pays}
+use Rattle.fast_input.proofs.StretchesRead.{level_read, level_pays}
 use Rattle.fast_input.proofs.TextBytes.{leaves_on, slice_get-drop}
-use Rattle.fast_input.proofs.TextGathered.{byte_at, depth-afterwards, row_at}
+use Rattle.fast_input.proofs.TextGathered.{byte_at, depth-afterwards, stretch_at}
 
--- ---- the row shows it where the level does
+-- ---- the stretch shows it where the level does
 
 -- an item that is a byte
 byte_is : (b : ℕ) (f : Option NextItem) → is_byte b f ≡ true → f ≡ Some (next_items.Byte b)
@@ -40,14 +40,14 @@ byte_is b None is = absurd (let wrong : false ≡ true = is in cc)
 byte_is b (Some (next_items.Byte c)) is = ap (λ n. Some (next_items.Byte n)) (eqb-true c b is)
 byte_is b (Some f) is = absurd (let wrong : false ≡ true = is in cc)
 
-module _ (items : ℕ) (fs : List NextItem) (rest : List Element) (row : fs ≡ drop items (map element_item rest)) where
-  -- a byte of the row is one of the level
+module _ (items : ℕ) (fs : List NextItem) (rest : List Element) (stretch : fs ≡ drop items (map element_item rest)) where
+  -- a byte of the stretch is one of the level
   pub byte_shown : (n b : ℕ) → is_byte b (slice_get fs n) ≡ true → slice_get rest (items + n) ≡ Some (elements.Byte b)
-  byte_shown n b is = byte_at (slice_get rest (items + n)) b (sym (row_at items n fs rest row) ∙ byte_is b (slice_get fs n) is)
+  byte_shown n b is = byte_at (slice_get rest (items + n)) b (sym (stretch_at items n fs rest stretch) ∙ byte_is b (slice_get fs n) is)
 
-  -- and a byte of the level one of the row
+  -- and a byte of the level one of the stretch
   pub shown_byte : (n b : ℕ) → slice_get rest (items + n) ≡ Some (elements.Byte b) → is_byte b (slice_get fs n) ≡ true
-  shown_byte n b is = rw (row_at items n fs rest row, is) (eq-eqb b b refl)
+  shown_byte n b is = rw (stretch_at items n fs rest stretch, is) (eq-eqb b b refl)
 
   -- so it is with the brace
   pub has_brace : begins_with_brace fs ≡ true → HasBrace items rest

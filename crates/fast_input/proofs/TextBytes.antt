@@ -14,8 +14,8 @@ use Rattle.nr_input.specs.Moving.{situation}
 use Rattle.fast_input.specs.Runs.{PaysAll}
 use Rattle.fast_input.proofs.ControlLines.{pays_then}
 use Rattle.fast_input.proofs.Interpolated.{pays_nothing, read_then}
-use Rattle.fast_input.proofs.LevelRows.{rest-left_times}
-use Rattle.fast_input.proofs.RowMoves.{reads_nothing}
+use Rattle.fast_input.proofs.LevelStretches.{rest-left_times}
+use Rattle.fast_input.proofs.StretchMoves.{reads_nothing}
 
 -- ---- moves that tell nothing
 

@@ -27,17 +27,17 @@ use Rattle.nr_input.specs.declared.reader.Reader.{Reader}
 use Rattle.fast_input.specs.declared.splices.Splice.{Splice}
 use Rattle.nr_input.specs.Acting.{expanded, register_text}
 use Rattle.nr_input.specs.Place.{element_item}
-use Rattle.fast_input.specs.Rows.{AreBytes, EndsRun}
+use Rattle.fast_input.specs.Stretches.{AreBytes, EndsRun}
 use Rattle.fast_input.specs.Gathering.{AreGathered, AreItems, IsGathering, IsSpliced, LeadsInText, Leaves, StopsGathering, bytes_before, last_asked, own_bytes, passed, spliced}
 use Rattle.fast_input.specs.Interpolations.{HasRoom, MaySplice, OpensLevel, brings_text, opened, opened_pending}
 use Rattle.nr_input.specs.Moving.{situation}
 use Rattle.fast_input.specs.Runs.{PaysAll}
 use Rattle.fast_input.proofs.ControlLines.{pays_then}
 use Rattle.fast_input.proofs.Interpolated.{read_then}
-use Rattle.fast_input.proofs.LevelRows.{left_times-add, rest-left_times, row_after}
+use Rattle.fast_input.proofs.LevelStretches.{left_times-add, rest-left_times, stretch_after}
 use Rattle.fast_input.proofs.Putting.{has_read_quietly}
 use Rattle.fast_input.proofs.PuttingLevel.{charge-afterwards}
-use Rattle.fast_input.proofs.RowsRead.{level_read, level_pays, taken-le}
+use Rattle.fast_input.proofs.StretchesRead.{level_read, level_pays, taken-le}
 use Rattle.fast_input.proofs.SplicesLie.{last_asked-more}
 use Rattle.fast_input.proofs.TextBytes.{AreNext, leaves_all, leaves_nothing, leaves_on, slice_get-drop}
 use Rattle.fast_input.proofs.TextOpened.{charge-opened, deepest-opened, depth-opened, ended_leads, limit-opened, opens_pays, opens_quietly, stored-opened}
@@ -338,15 +338,15 @@ module _ {K : Type 0} (bytes : List ℕ) (items moves : ℕ) (splices : List Spl
           each = made_each;
         }
 
--- an escape that was taken in of a row
+-- an escape that was taken in of a stretch
 module _ {K : Type 0} (bytes : List ℕ) (items moves : ℕ) (splices : List Splice) (v : Stored K) (r q : Reader) (gathered : AreGathered bytes items moves splices v r) (is : q ≡ spliced (length splices) (last_asked splices r.half.notes.asked) r)
-    (look : q.half.reading.pending_act ≡ pending_acts.Look) (n t : ℕ) (own : List ℕ) (h : Half) (fs : List NextItem) (row : fs ≡ drop items (map element_item (rest_of v.levels))) (taken_in : HasTakenIn n fs q.half (record { taken = t; half = h; event = events.Nothing }))
+    (look : q.half.reading.pending_act ≡ pending_acts.Look) (n t : ℕ) (own : List ℕ) (h : Half) (fs : List NextItem) (stretch : fs ≡ drop items (map element_item (rest_of v.levels))) (taken_in : HasTakenIn n fs q.half (record { taken = t; half = h; event = events.Nothing }))
     (asks : AsksOnly q.half h) (may : (k : ℕ) → k ≤ length (rest_of v.levels) → MaySplice own (left_times k v) (record q { half = h })) (few : n ≤ 6) (less : length splices < 8) (fits : length bytes + length own ≤ 4096) where
   abbrev start : Stored K
   start = left_times items v
 
   taken_in_there : HasTakenIn n (map element_item (rest_of start.levels)) q.half (record { taken = t; half = h; event = events.Nothing })
-  taken_in_there = subst (λ (xs : List NextItem). HasTakenIn n xs q.half (record { taken = t; half = h; event = events.Nothing })) (row ∙ row_after items (map element_item (rest_of v.levels)) v gathered.there refl) taken_in
+  taken_in_there = subst (λ (xs : List NextItem). HasTakenIn n xs q.half (record { taken = t; half = h; event = events.Nothing })) (stretch ∙ stretch_after items (map element_item (rest_of v.levels)) v gathered.there refl) taken_in
 
   pub taken_within : items + t ≤ length (rest_of v.levels)
   taken_within =
@@ -421,11 +421,11 @@ all_bytes (b ∷ bs) (x ∷ xs) are same =
     let is : x ≡ elements.Byte b = cc in
     ap₂ (λ (y : Element) (ys : List Element). y ∷ ys) is (all_bytes bs xs (λ n less. are (suc n) (omega (arith, less))) (omega (arith, same)))
 
--- a row of the level from an item on
-pub row_at : (items n : ℕ) (fs : List NextItem) (rest : List Element) → fs ≡ drop items (map element_item rest) → slice_get fs n ≡ option_map element_item (slice_get rest (items + n))
-row_at items n fs rest row = ap (λ (xs : List NextItem). slice_get xs n) row ∙ slice_get-drop items n (map element_item rest) ∙ slice_get-map element_item rest (items + n)
+-- a stretch of the level from an item on
+pub stretch_at : (items n : ℕ) (fs : List NextItem) (rest : List Element) → fs ≡ drop items (map element_item rest) → slice_get fs n ≡ option_map element_item (slice_get rest (items + n))
+stretch_at items n fs rest stretch = ap (λ (xs : List NextItem). slice_get xs n) stretch ∙ slice_get-drop items n (map element_item rest) ∙ slice_get-map element_item rest (items + n)
 
-module _ {K : Type 0} (g : Gathered) (n : ℕ) (old new : List ℕ) (fs : List NextItem) (v : Stored K) (row : fs ≡ drop g.items (map element_item (rest_of v.levels))) where
+module _ {K : Type 0} (g : Gathered) (n : ℕ) (old new : List ℕ) (fs : List NextItem) (v : Stored K) (stretch : fs ≡ drop g.items (map element_item (rest_of v.levels))) where
   -- a run was copied
   pub run_copied : (r q : Reader) → IsGathering (take g.count old) v r q g → take g.count new ≡ take g.count old → AreBytes (take n (drop g.count new)) fs → g.count + n ≤ length new → length new ≤ 4096
       → IsGathering (take (g.count + n) new) v r q (passed n g)
@@ -435,7 +435,7 @@ module _ {K : Type 0} (g : Gathered) (n : ℕ) (old new : List ℕ) (fs : List N
       let long : length cs ≡ n = omega (arith, fits, length-take n (drop g.count new), length-drop g.count new) in
       let count : length bs ≡ g.count = ap length (sym kept) ∙ length-take-le g.count new (omega (arith, fits)) in
       let all : bs ++ cs ≡ take (g.count + n) new = ap (λ xs. xs ++ cs) (sym kept) ∙ take_split g.count n new in
-      let stand : StandAfter g.items cs (rest_of v.levels) = λ j less. byte_at (slice_get (rest_of v.levels) (g.items + j)) (slice_index cs j) (sym (row_at g.items j fs (rest_of v.levels) row) ∙ bytes j less) in
+      let stand : StandAfter g.items cs (rest_of v.levels) = λ j less. byte_at (slice_get (rest_of v.levels) (g.items + j)) (slice_index cs j) (sym (stretch_at g.items j fs (rest_of v.levels) stretch) ∙ bytes j less) in
       let run = run_gathered bs g.items g.moves g.splices v r before.gathered cs stand (omega (arith, count, long, fits, most)) in
       record {
         gathered = subst (λ k. AreGathered (take (g.count + n) new) (g.items + k) g.moves g.splices v r) long (subst (λ xs. AreGathered xs (g.items + length cs) g.moves g.splices v r) all run);
@@ -445,7 +445,7 @@ module _ {K : Type 0} (g : Gathered) (n : ℕ) (old new : List ℕ) (fs : List N
   -- it stops there
   pub run_stops : 64 ≤ length new → (g.count + n < length new → EndsRun (slice_get fs n)) → StopsGathering (rest_of v.levels) (g.items + n) (g.count + n)
   run_stops room longest = λ b is other escape. elim (cases_lt (g.count + n) (length new)) [
-    | inl less ↦ absurd (longest less b (row_at g.items n fs (rest_of v.levels) row ∙ ap (option_map element_item) is) other escape)
+    | inl less ↦ absurd (longest less b (stretch_at g.items n fs (rest_of v.levels) stretch ∙ ap (option_map element_item) is) other escape)
     | inr past ↦ omega (arith, past, room)
   ]
 
@@ -462,6 +462,6 @@ drop_on zero n xs = let same : n ≡ 0 + n = omega arith in ap (λ k. drop k xs)
 drop_on (suc m) n [] = drop-nil n ∙ sym (drop-nil (suc m + n))
 drop_on (suc m) n (x ∷ xs) = let same : suc (m + n) ≡ suc m + n = omega arith in drop_on m n xs ∙ ap (λ k. drop k (x ∷ xs)) same
 
--- what is left of a row of the level after more of it
-pub row_on : (items n more : ℕ) (fs gs : List NextItem) (rest : List Element) → fs ≡ drop items (map element_item rest) → gs ≡ drop n fs → more ≡ items + n → gs ≡ drop more (map element_item rest)
-row_on items n more fs gs rest row afterwards is = afterwards ∙ ap (drop n) row ∙ drop_on items n (map element_item rest) ∙ ap (λ k. drop k (map element_item rest)) (sym is)
+-- what is left of a stretch of the level after more of it
+pub stretch_on : (items n more : ℕ) (fs gs : List NextItem) (rest : List Element) → fs ≡ drop items (map element_item rest) → gs ≡ drop n fs → more ≡ items + n → gs ≡ drop more (map element_item rest)
+stretch_on items n more fs gs rest stretch afterwards is = afterwards ∙ ap (drop n) stretch ∙ drop_on items n (map element_item rest) ∙ ap (λ k. drop k (map element_item rest)) (sym is)

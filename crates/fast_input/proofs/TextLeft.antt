@@ -12,7 +12,7 @@ use Rattle.nr_input.specs.declared.reader.Reader.{Reader}
 use Rattle.fast_input.specs.declared.splices.Splice.{Splice}
 use Rattle.fast_input.specs.Gathering.{AreGathered, AreItems, IsSpliced, Leaves, bytes_before, own_bytes, spliced}
 use Rattle.fast_input.specs.Interpolations.{opened}
-use Rattle.fast_input.proofs.LevelRows.{rest-left_times}
+use Rattle.fast_input.proofs.LevelStretches.{rest-left_times}
 use Rattle.fast_input.proofs.TextBytes.{AreNext, leaves_level, leaves_some, slice_get-drop}
 use Rattle.fast_input.proofs.TextOpened.{rest-opened}
 

@@ -1,10 +1,10 @@
 pub mod AtHand
 pub mod Runs
-pub mod Rows
+pub mod Stretches
 pub mod Levels
 pub mod Interpolations
 pub mod Gathering
-pub mod LevelRows
+pub mod LevelStretches
 pub mod MacroLines
 pub mod BodyLines
 pub mod DroppedLines

@@ -12,7 +12,7 @@ ghost use Rattle.nr_input.specs.Refusal.{called, acted};
 ghost use Rattle.fast_input.specs.Runs.{HasRead, PaysAll};
 
 use crate::adding::add_prefix;
-use crate::rows::ByteRow;
+use crate::stretches::ByteStretch;
 use crate::target::Target;
 use nr_input::Reader;
 use nr_reading::{Event, PendingAct, Run};
@@ -61,7 +61,7 @@ pub(crate) fn take_in_bytes<K: Copy>(reader: &mut Reader, bytes: &[u8], store: &
     ensures room { charge_of store.new + (32 + length bytes.now) ≤ store.new.limit }
     ensures limits { limits_of store.new reader.new ≡ limits_of store.old reader.old }
 {
-    let run = reader.half.take_in_run(&ByteRow(bytes));
+    let run = reader.half.take_in_run(&ByteStretch(bytes));
     if !matches!(run.event, Event::Nothing) || !begin_target(reader, bytes.len(), store) {
         return run;
     }

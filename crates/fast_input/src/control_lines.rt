@@ -12,8 +12,8 @@ ghost use Rattle.fast_input.specs.Runs.{HasRead, PaysAll, ReadsSome, IsLongest, 
 use crate::at_hand::window;
 use crate::level_lines::read_level_line;
 use crate::macro_lines::read_macro_line;
-use crate::rows::ByteRow;
 use crate::runs::{read_run, read_source};
+use crate::stretches::ByteStretch;
 use nr_input::{Place, Reader};
 use nr_reading::{Event, Half, Mode, PendingAct, Run};
 use nr_store::Store;
@@ -65,11 +65,11 @@ fn read_named_line<K: Copy, R: Source>(
     ensures source { result ≡ None → source.new ≡ source.old }
 {
     let bytes = window(place, store, source);
-    let row = ByteRow(bytes);
+    let stretch = ByteStretch(bytes);
     if !matches!(reader.half.reading.pending_act, PendingAct::Look) {
         return None;
     }
-    let Some(name) = reader.half.take_in_name(&row) else {
+    let Some(name) = reader.half.take_in_name(&stretch) else {
         return None;
     };
     reader.burst = 0;

@@ -9,7 +9,7 @@ ghost use Rattle.nr_reading.specs.Many.LineBeginnings.{is_at_text};
 ghost use Rattle.nr_reading.specs.Many.Runs.{HasTakenIn, spot};
 ghost use Rattle.fast_input.specs.Fonts.{BeginsFont};
 
-use crate::rows::ByteRow;
+use crate::stretches::ByteStretch;
 use nr_input::Reader;
 use nr_reading::Run;
 
@@ -36,5 +36,5 @@ pub fn take_in_font(reader: &mut Reader, bytes: &[u8]) -> Option<Run>
     ensures longest { result ≡ None → is_at_text reader.old.half ≡ true → interpolates reader.old.half ≡ true
         → BeginsFont (is_in_text reader.old.half) bytes.now → ⊥ }
 {
-    reader.half.take_in_next_font(&ByteRow(bytes))
+    reader.half.take_in_next_font(&ByteStretch(bytes))
 }

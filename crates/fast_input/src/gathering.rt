@@ -16,12 +16,12 @@ ghost use Rattle.nr_input.specs.declared.reader.Reader.{Reader as ReaderValue};
 ghost use Rattle.nr_input.specs.Place.{element_item};
 ghost use Rattle.fast_input.specs.Gathering.{AreGathered, GathersMost, IsGathered, IsGathering, Leaves, StopsGathering, brace_items, last_asked, nothing_gathered, own_bytes, passed, spliced, with_splice};
 ghost use Rattle.fast_input.specs.Interpolations.{MaySplice, opened};
-ghost use Rattle.fast_input.specs.Rows.{AreBytes, EndsRun};
+ghost use Rattle.fast_input.specs.Stretches.{AreBytes, EndsRun};
 
 use crate::interpolations::{LONGEST, begin_splice, brings_text, copy_splice};
-use crate::level_rows::Tail;
-use crate::rows::{ByteRow, ElementRow, copy_run};
+use crate::level_stretches::Tail;
 use crate::splices::{MOST, Splice, Splices};
+use crate::stretches::{ByteStretch, ElementStretch, copy_run};
 use nr_input::Reader;
 use nr_reading::{Event, Items, PendingAct};
 use nr_store::{Rest, Store};
@@ -118,23 +118,23 @@ impl Gathered {
     }
 }
 
-// Whether a row has this byte after so many items.
+// Whether a stretch has this byte after so many items.
 #[inline(always)]
-fn has_byte<I: Items>(row: &I, place: usize, byte: u8) -> bool
-    ensures { result ≡ is_byte byte (slice_get (I.next_items row.now) place) }
+fn has_byte<I: Items>(stretch: &I, place: usize, byte: u8) -> bool
+    ensures { result ≡ is_byte byte (slice_get (I.next_items stretch.now) place) }
 {
-    place < row.count() && row.byte(place) == Some(byte)
+    place < stretch.count() && stretch.byte(place) == Some(byte)
 }
 
-// Whether a row begins with a newline, or with `closes` after the `\}` that it begins with.
+// Whether a stretch begins with a newline, or with `closes` after the `\}` that it begins with.
 #[inline(always)]
-fn has_newline<I: Items>(row: &I, closes: bool) -> bool
-    ensures { result ≡ is_byte (code "\n") (slice_get (I.next_items row.now) (brace_items closes)) }
+fn has_newline<I: Items>(stretch: &I, closes: bool) -> bool
+    ensures { result ≡ is_byte (code "\n") (slice_get (I.next_items stretch.now) (brace_items closes)) }
 {
     if closes {
-        return has_byte(row, 2, b'\n');
+        return has_byte(stretch, 2, b'\n');
     }
-    has_byte(row, 0, b'\n')
+    has_byte(stretch, 0, b'\n')
 }
 
 // So many splices more are counted, and this name was asked for last.
@@ -170,18 +170,18 @@ struct TakenIn {
     count: usize,
 }
 
-// The escape that a row begins with is taken in, and the bytes that it brings are put into the chunk, of 64 bytes or more, where they are those
+// The escape that a stretch begins with is taken in, and the bytes that it brings are put into the chunk, of 64 bytes or more, where they are those
 // of an argument, a register or a string: they are to be spliced then. Else what is half read stays.
 #[inline(always)]
 fn take_in_splice<K: Copy, I: Items>(
     reader: &mut Reader,
     store: &Store<K>,
-    row: &I,
+    stretch: &I,
     chunk: &mut [u8],
 ) -> Option<TakenIn>
     requires text { is_in_text reader.old.half ≡ true }
     requires holds { 64 ≤ length chunk.old }
-    ensures taken_in { IfSome result (λ taken_in. HasTakenIn taken_in.moves (I.next_items row.now) reader.old.half
+    ensures taken_in { IfSome result (λ taken_in. HasTakenIn taken_in.moves (I.next_items stretch.now) reader.old.half
         (record { taken = taken_in.taken; half = reader.new.half; event = events.Nothing })) }
     ensures few { IfSome result (λ taken_in. taken_in.moves ≤ 6) }
     ensures asks { IfSome result (λ taken_in. AsksOnly reader.old.half reader.new.half) }
@@ -192,7 +192,7 @@ fn take_in_splice<K: Copy, I: Items>(
     ensures left { result ≡ None → reader.new ≡ reader.old }
 {
     let asked = reader.half.notes.asked;
-    let Some(run) = reader.half.take_in_next(row) else {
+    let Some(run) = reader.half.take_in_next(stretch) else {
         return None;
     };
     if matches!(run.event, Event::Nothing) {
@@ -209,18 +209,18 @@ fn take_in_splice<K: Copy, I: Items>(
     None
 }
 
-// The escape that a row begins with is taken in, and the bytes that it brings are put after those that were gathered, where they are those
+// The escape that a stretch begins with is taken in, and the bytes that it brings are put after those that were gathered, where they are those
 // of an argument, a register or a string. Answers how many items it has: 0 where it is none of these.
 #[inline(always)]
 fn gather_escape<K: Copy, I: Items>(
     reader: &mut Reader,
     store: &Store<K>,
-    row: &I,
+    stretch: &I,
     chunk: &mut [u8],
     gathered: &mut Gathered,
 ) -> usize
     requires text { is_in_text reader.old.half ≡ true }
-    requires row { I.next_items row.now ≡ drop gathered.old.items (map element_item (rest_of store.now.levels)) }
+    requires stretch { I.next_items stretch.now ≡ drop gathered.old.items (map element_item (rest_of store.now.levels)) }
     requires count { gathered.old.count ≤ length chunk.old }
     requires holds { length chunk.old ≤ 4096 }
     requires items { gathered.old.items ≤ 8192 }
@@ -230,7 +230,7 @@ fn gather_escape<K: Copy, I: Items>(
         → IsGathering (take gathered.new.count chunk.new) store.now r reader.new gathered.new }
     ensures text { is_in_text reader.new.half ≡ true }
     ensures items { gathered.new.items ≡ gathered.old.items + result }
-    ensures within { result ≤ length (I.next_items row.now) }
+    ensures within { result ≤ length (I.next_items stretch.now) }
     ensures count { gathered.new.count ≤ length chunk.new }
     ensures more { gathered.old.count ≤ gathered.new.count }
     ensures ends { gathered.new.ends ≡ gathered.old.ends }
@@ -239,7 +239,7 @@ fn gather_escape<K: Copy, I: Items>(
     if gathered.splices.len() == MOST || chunk.len() - gathered.count < LONGEST {
         return 0;
     }
-    let Some(taken_in) = take_in_splice(reader, store, row, &mut chunk[gathered.count..]) else {
+    let Some(taken_in) = take_in_splice(reader, store, stretch, &mut chunk[gathered.count..]) else {
         return 0;
     };
     let named = brings_text(reader);
@@ -254,44 +254,44 @@ fn gather_escape<K: Copy, I: Items>(
     taken_in.taken
 }
 
-// Gathers the bytes that a row begins with, and answers how many.
+// Gathers the bytes that a stretch begins with, and answers how many.
 #[inline(always)]
-fn gather_run<I: Items>(row: &I, chunk: &mut [u8], gathered: &mut Gathered) -> usize
+fn gather_run<I: Items>(stretch: &I, chunk: &mut [u8], gathered: &mut Gathered) -> usize
     requires count { gathered.old.count ≤ length chunk.old }
     requires holds { length chunk.old ≤ 4096 }
     requires items { gathered.old.items ≤ 8192 }
     ensures passed { gathered.new ≡ passed result gathered.old }
-    ensures within { result ≤ length (I.next_items row.now) }
+    ensures within { result ≤ length (I.next_items stretch.now) }
     ensures count { gathered.new.count ≤ length chunk.new }
     ensures holds { length chunk.new ≡ length chunk.old }
     ensures kept { take gathered.old.count chunk.new ≡ take gathered.old.count chunk.old }
-    ensures bytes { AreBytes (take result (drop gathered.old.count chunk.new)) (I.next_items row.now) }
+    ensures bytes { AreBytes (take result (drop gathered.old.count chunk.new)) (I.next_items stretch.now) }
     ensures longest { gathered.old.count + result < length chunk.old
-        → EndsRun (slice_get (I.next_items row.now) result) }
+        → EndsRun (slice_get (I.next_items stretch.now) result) }
 {
-    let count = copy_run(row, &mut chunk[gathered.count..]);
+    let count = copy_run(stretch, &mut chunk[gathered.count..]);
     gathered.pass(count);
     count
 }
 
-// Gathers what comes next in a row, from an escape on, and answers what is left of it. The reader stands where that many are spliced.
+// Gathers what comes next in a stretch, from an escape on, and answers what is left of it. The reader stands where that many are spliced.
 #[inline(always)]
 fn gather_more<K: Copy, I: Tail>(
     reader: &mut Reader,
     store: &Store<K>,
-    row: I,
+    stretch: I,
     chunk: &mut [u8],
     gathered: &mut Gathered,
 ) -> I
     requires text { is_in_text reader.old.half ≡ true }
-    requires row { I.next_items row ≡ drop gathered.old.items (map element_item (rest_of store.now.levels)) }
+    requires stretch { I.next_items stretch ≡ drop gathered.old.items (map element_item (rest_of store.now.levels)) }
     requires count { gathered.old.count ≤ length chunk.old }
     requires holds { length chunk.old ≤ 4096 }
     requires room { 64 ≤ length chunk.old }
     requires gathered { IsGathering (take gathered.old.count chunk.old) store.now reader.old reader.old
         gathered.old }
     requires stops { StopsGathering (rest_of store.now.levels) gathered.old.items gathered.old.count }
-    ensures row { I.next_items result ≡ drop gathered.new.items (map element_item (rest_of store.now.levels)) }
+    ensures stretch { I.next_items result ≡ drop gathered.new.items (map element_item (rest_of store.now.levels)) }
     ensures count { gathered.new.count ≤ length chunk.new }
     ensures holds { length chunk.new ≡ length chunk.old }
     ensures ends { gathered.new.ends ≡ gathered.old.ends }
@@ -299,7 +299,7 @@ fn gather_more<K: Copy, I: Tail>(
         gathered.new }
     ensures stops { StopsGathering (rest_of store.now.levels) gathered.new.items gathered.new.count }
 {
-    let mut rest = row;
+    let mut rest = stretch;
     for _ in 0..MOST {
         let taken = gather_escape(reader, store, &rest, chunk, gathered);
         if taken == 0 {
@@ -317,19 +317,19 @@ fn gather_more<K: Copy, I: Tail>(
 fn gather_escapes<K: Copy, I: Tail>(
     reader: &mut Reader,
     store: &Store<K>,
-    row: I,
+    stretch: I,
     chunk: &mut [u8],
     gathered: &mut Gathered,
 ) -> I
     requires text { is_in_text reader.old.half ≡ true }
-    requires row { I.next_items row ≡ drop gathered.old.items (map element_item (rest_of store.now.levels)) }
+    requires stretch { I.next_items stretch ≡ drop gathered.old.items (map element_item (rest_of store.now.levels)) }
     requires count { gathered.old.count ≤ length chunk.old }
     requires holds { length chunk.old ≤ 4096 }
     requires room { 64 ≤ length chunk.old }
     requires gathered { IsGathering (take gathered.old.count chunk.old) store.now reader.old reader.old
         gathered.old }
     requires stops { StopsGathering (rest_of store.now.levels) gathered.old.items gathered.old.count }
-    ensures row { I.next_items result ≡ drop gathered.new.items (map element_item (rest_of store.now.levels)) }
+    ensures stretch { I.next_items result ≡ drop gathered.new.items (map element_item (rest_of store.now.levels)) }
     ensures count { gathered.new.count ≤ length chunk.new }
     ensures holds { length chunk.new ≡ length chunk.old }
     ensures ends { gathered.new.ends ≡ gathered.old.ends }
@@ -338,28 +338,28 @@ fn gather_escapes<K: Copy, I: Tail>(
     ensures stops { StopsGathering (rest_of store.now.levels) gathered.new.items gathered.new.count }
     ensures left { reader.new ≡ reader.old }
 {
-    if !has_byte(&row, 0, b'\\') {
-        return row;
+    if !has_byte(&stretch, 0, b'\\') {
+        return stretch;
     }
     let burst = reader.burst;
     let asked = reader.half.notes.asked;
-    let rest = gather_more(reader, store, row, chunk, gathered);
+    let rest = gather_more(reader, store, stretch, chunk, gathered);
     reader.burst = burst;
     reader.half.notes.asked = asked;
     rest
 }
 
-// Gathers what comes next in the row of the newest level.
+// Gathers what comes next in the stretch of the newest level.
 #[inline(always)]
-fn gather_row<K: Copy, I: Tail>(
+fn gather_stretch<K: Copy, I: Tail>(
     reader: &mut Reader,
     store: &Store<K>,
-    row: I,
+    stretch: I,
     chunk: &mut [u8],
     gathered: &mut Gathered,
 )
     requires text { is_in_text reader.old.half ≡ true }
-    requires row { I.next_items row ≡ map element_item (rest_of store.now.levels) }
+    requires stretch { I.next_items stretch ≡ map element_item (rest_of store.now.levels) }
     requires holds { length chunk.old ≤ 4096 }
     requires room { 64 ≤ length chunk.old }
     requires none { gathered.old ≡ nothing_gathered }
@@ -369,8 +369,8 @@ fn gather_row<K: Copy, I: Tail>(
     ensures most { GathersMost (rest_of store.now.levels) gathered.new }
     ensures left { reader.new ≡ reader.old }
 {
-    let count = gather_run(&row, chunk, gathered);
-    let rest = gather_escapes(reader, store, row.afterwards(count), chunk, gathered);
+    let count = gather_run(&stretch, chunk, gathered);
+    let rest = gather_escapes(reader, store, stretch.afterwards(count), chunk, gathered);
     gathered.closes = reader.half.takes_in_brace(&rest);
     gathered.ends = has_newline(&rest, gathered.closes);
 }
@@ -401,8 +401,14 @@ pub fn gather<K: Copy>(
     let chunk = &mut chunk[..most];
     gathered.clear();
     match store.rest() {
-        Rest::Text(elements) => gather_row(reader, store, ElementRow(elements), chunk, gathered),
-        Rest::Bytes(bytes) => gather_row(reader, store, ByteRow(bytes), chunk, gathered),
+        Rest::Text(elements) => gather_stretch(
+            reader,
+            store,
+            ElementStretch(elements),
+            chunk,
+            gathered,
+        ),
+        Rest::Bytes(bytes) => gather_stretch(reader, store, ByteStretch(bytes), chunk, gathered),
     }
 }
 

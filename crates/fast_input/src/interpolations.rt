@@ -16,8 +16,8 @@ ghost use Rattle.fast_input.specs.Runs.{HasRead, PaysAll, PaysMany};
 
 use crate::adding::add_prefix;
 use crate::beginnings::take_in_bytes;
-use crate::rows::{ElementRow, copy_run};
 use crate::runs::{Moved, read_added};
+use crate::stretches::{ElementStretch, copy_run};
 use crate::target::Target;
 use nr_input::Reader;
 use nr_reading::{Event, Half, Mode, PendingAct, Run, Sign};
@@ -141,10 +141,10 @@ fn splice_on<K: Copy>(reader: &mut Reader, bytes: &[u8], store: &mut Store<K>) -
     if spliced.moves == 0 || !matches!(spliced.event, Event::Nothing) || !reader.looks() {
         return spliced;
     }
-    let row = read_added(reader, store);
+    let stretch = read_added(reader, store);
     Moved {
-        moves: spliced.moves + row.moves,
-        event: row.event,
+        moves: spliced.moves + stretch.moves,
+        event: stretch.event,
     }
 }
 
@@ -322,7 +322,7 @@ fn copy_string<K: Copy>(reader: &Reader, store: &Store<K>, chunk: &mut [u8]) -> 
         return None;
     };
     let len = text.len();
-    if !may_splice(reader, len, store) || copy_run(&ElementRow(text), chunk) < len {
+    if !may_splice(reader, len, store) || copy_run(&ElementStretch(text), chunk) < len {
         return None;
     }
     Some(len)

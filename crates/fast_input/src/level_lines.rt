@@ -11,8 +11,8 @@ ghost use Rattle.nr_input.specs.Limits.{limits_of};
 ghost use Rattle.nr_input.specs.Moving.{situation};
 ghost use Rattle.fast_input.specs.Runs.{HasRead, PaysAll, IsLongestInLevel};
 
-use crate::rows::{ByteRow, ElementRow};
 use crate::runs::read_level;
+use crate::stretches::{ByteStretch, ElementStretch};
 use nr_input::Reader;
 use nr_reading::{Event, Half, PendingAct, Run, TakenInName};
 use nr_store::{Rest, Store};
@@ -30,8 +30,8 @@ fn take_in_name(half: &mut Half, rest: Rest<'_>) -> Option<TakenInName>
     ensures left { result ≡ None → half.new ≡ half.old }
 {
     match rest {
-        Rest::Text(elements) => half.take_in_name(&ElementRow(elements)),
-        Rest::Bytes(bytes) => half.take_in_name(&ByteRow(bytes)),
+        Rest::Text(elements) => half.take_in_name(&ElementStretch(elements)),
+        Rest::Bytes(bytes) => half.take_in_name(&ByteStretch(bytes)),
     }
 }
 

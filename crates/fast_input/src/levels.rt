@@ -13,13 +13,13 @@ ghost use Rattle.nr_input.specs.Moving.{situation};
 ghost use Rattle.fast_input.specs.Runs.{HasRead, PaysMany, StopsInLevel, IsLongestUpToText};
 
 use crate::interpolations::interpolate_at_once;
-use crate::level_rows::read_rows;
+use crate::level_stretches::read_stretches;
 use crate::runs::{Moved, read_added, read_level};
 use nr_input::Reader;
 use nr_reading::{Event, Mode, PendingAct, Run};
 use nr_store::Store;
 
-/// The most rows, ends of levels and pending acts in one call.
+/// The most stretches, ends of levels and pending acts in one call.
 const MOST_PARTS: u32 = 800;
 
 /// After how many moves no further part is read in one call.
@@ -151,7 +151,7 @@ fn read_copied<K: Copy>(reader: &mut Reader, store: &mut Store<K>) -> Moved
 
 // The first items of the newest level are read with the names of control lines, or its end is taken.
 #[inline(always)]
-fn read_row<K: Copy>(reader: &mut Reader, store: &mut Store<K>) -> Moved
+fn read_stretch<K: Copy>(reader: &mut Reader, store: &mut Store<K>) -> Moved
     requires pending_act { reader.old.half.reading.pending_act ≡ pending_acts.Look }
     ensures read { (c : Coming) (p : Reached) (supply : Option Supply) → HoldsComing c p supply
         → HasRead result.moves (situation store.old c reader.old) result.event store.new reader.new p supply }
@@ -163,7 +163,7 @@ fn read_row<K: Copy>(reader: &mut Reader, store: &mut Store<K>) -> Moved
         → reader.old.half.reading.pending_act ≡ pending_acts.Look → 0 < result.moves }
     ensures stops { result.moves ≡ 0 → StopsInLevel 0 result.event store.new reader.new }
 {
-    let Some(prefix) = read_rows(reader, store) else {
+    let Some(prefix) = read_stretches(reader, store) else {
         return Moved {
             moves: read_end(store),
             event: Event::Nothing,
@@ -175,7 +175,7 @@ fn read_row<K: Copy>(reader: &mut Reader, store: &mut Store<K>) -> Moved
     }
 }
 
-// What comes next of the levels: what is pending, items that lie in a row, or the end of a level.
+// What comes next of the levels: what is pending, items that lie in a stretch, or the end of a level.
 #[inline(always)]
 fn read_part<K: Copy>(reader: &mut Reader, store: &mut Store<K>) -> Moved
     ensures read { (c : Coming) (p : Reached) (supply : Option Supply) → HoldsComing c p supply
@@ -193,7 +193,7 @@ fn read_part<K: Copy>(reader: &mut Reader, store: &mut Store<K>) -> Moved
     }
     match reader.half.reading.mode {
         Mode::Word | Mode::Quoted | Mode::StringText | Mode::Body => read_copied(reader, store),
-        _ => read_row(reader, store),
+        _ => read_stretch(reader, store),
     }
 }
 
@@ -285,7 +285,7 @@ fn read_text_on<K: Copy>(reader: &mut Reader, store: &mut Store<K>) -> Moved
 /// pending are read, or the end of its level. The mode after a sprung text is left; `_mode` is of no account.
 ///
 /// Proved: What levels bring is read in one call by exactly the moves of nr_input: what is pending, items that lie in
-/// a row, control lines with their names, ends of levels, and arguments and registers that are spliced where bytes
+/// a stretch, control lines with their names, ends of levels, and arguments and registers that are spliced where bytes
 /// are copied, for which no level need be opened, also where an argument or a string's text begins with them.
 /// (`read_levels`; `interpolate_at_once` in interpolations.rt; `take_in_bytes` in beginnings.rt)
 /// Proved: If the newest level has a byte and no action is pending, `read_levels` makes at least one move. If it

@@ -1,8 +1,8 @@
-//! For speed: many moves of the input at once, of bytes that lie in a row: of the source, of levels, and those that
+//! For speed: many moves of the input at once, of bytes that lie in a stretch: of the source, of levels, and those that
 //! are spliced between them. Each contract says only that so many steps of the meaning were made.
 //!
 //! It stands on nr_units, nr_vectors, nr_pool, nr_levels, nr_symbol_tables, nr_store, nr_reading and nr_input. To
-//! read: `at_hand`, `target`, `adding`, `rows`, `runs`, `level_lines`, `level_rows`, `beginnings`,
+//! read: `at_hand`, `target`, `adding`, `stretches`, `runs`, `level_lines`, `level_stretches`, `beginnings`,
 //! `interpolations`, `levels`, `splices`, `gathering`, `macro_lines`, `body_lines`, `dropped_lines`,
 //! `control_lines`, `fonts`.
 //!
@@ -19,12 +19,12 @@ mod fonts;
 mod gathering;
 mod interpolations;
 mod level_lines;
-mod level_rows;
+mod level_stretches;
 mod levels;
 mod macro_lines;
-mod rows;
 mod runs;
 mod splices;
+mod stretches;
 mod target;
 
 pub use at_hand::{take_window, window};

@@ -1,4 +1,4 @@
-//! Many moves over items that lie in a row.
+//! Many moves over items that lie in a stretch.
 ghost use Rattle.std.specs.Prelude.{◌≡◌, ℕ, ◌*◌, ◌<◌, ◌≤◌, [], length, map, slice_get, nat_lt, true, false, Option, None, Some};
 ghost use Rattle.nr_units.specs.Source.{Supply};
 ghost use Rattle.nr_reading.specs.declared.event.Event.TheVariants as events;
@@ -15,7 +15,7 @@ ghost use Rattle.fast_input.specs.Target.{is_read_for};
 
 use crate::adding::{add_level_prefix, add_prefix};
 use crate::at_hand::window;
-use crate::rows::{ByteRow, ElementRow};
+use crate::stretches::{ByteStretch, ElementStretch};
 use crate::target::Target;
 use nr_input::{Place, Reader};
 use nr_reading::{Event, Half, Items, Run};
@@ -42,8 +42,8 @@ fn take_in_level(half: &mut Half, rest: Rest<'_>) -> Run
         ≡ Some (variants.Byte byte) → ⊥ }
 {
     match rest {
-        Rest::Text(elements) => half.take_in_run(&ElementRow(elements)),
-        Rest::Bytes(bytes) => half.take_in_run(&ByteRow(bytes)),
+        Rest::Text(elements) => half.take_in_run(&ElementStretch(elements)),
+        Rest::Bytes(bytes) => half.take_in_run(&ByteStretch(bytes)),
     }
 }
 
@@ -86,7 +86,7 @@ pub(crate) fn read_source<K: Copy, R: Source>(
     ensures unfailed { has_failed place.old.ahead ≡ false → has_failed place.new.ahead ≡ false }
 {
     let bytes = window(place, store, source);
-    let run = reader.half.take_in_run(&ByteRow(bytes));
+    let run = reader.half.take_in_run(&ByteStretch(bytes));
     if run.taken == 0 {
         return run;
     }
@@ -213,10 +213,10 @@ pub(crate) fn read_run_of_level<K: Copy>(reader: &mut Reader, store: &mut Store<
     }
 }
 
-/// Items that lie in a row are read, many moves at once: up to the first that tells something or after which something
+/// Items that lie in a stretch are read, many moves at once: up to the first that tells something or after which something
 /// is pending, and none where an item has to be looked at alone.
 ///
-/// Proved: Bytes that lie in a row are read in one call by exactly the moves of nr_input, of which only the last may
+/// Proved: Bytes that lie in a stretch are read in one call by exactly the moves of nr_input, of which only the last may
 /// emit an event.
 /// Proved: Of the bytes that the source has at hand `read_run` reads as many as can be, in 65,536 moves at most.
 #[inline(always)]

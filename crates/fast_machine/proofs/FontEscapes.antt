@@ -21,7 +21,7 @@ use Rattle.nr_input.specs.Moving.{situation}
 use Rattle.fast_input.specs.Runs.{HasRead, PaysMany}
 use Rattle.nr_input.specs.declared.reader.Reader.{Reader}
 use Rattle.fast_input.proofs.LevelParts.{many_of_all}
-use Rattle.fast_input.proofs.RowsRead.{holds_past, source_pays, source_read, source_saves}
+use Rattle.fast_input.proofs.StretchesRead.{holds_past, source_pays, source_read, source_saves}
 use Rattle.nr_formatter.specs.Access.{collected}
 use Rattle.nr_formatter.specs.Limits.{FitsMemory}
 use Rattle.nr_formatter.specs.Many.LineBeginnings.{is_at_text}

@@ -3,7 +3,7 @@ ghost use Rattle.std.specs.Prelude.{◌≡◌};
 ghost use Rattle.filters.specs.Arguments.{texts};
 ghost use Rattle.filters_own.specs.Names as specs;
 
-use utf8_characters::Table;
+use utf8_characters::FixedTable;
 
 /// How the name of a page's own table begins.
 const OWN: &[u8] = b"own:";
@@ -12,7 +12,7 @@ const OWN: &[u8] = b"own:";
 #[derive(Clone, Copy, Debug, PartialEq, Eq)]
 pub enum Named {
     /// A fixed one.
-    Fixed(Table),
+    Fixed(FixedTable),
     /// That of the characters of a file, which the word at this place names.
     Own(usize),
 }
@@ -27,7 +27,7 @@ pub fn table_at(word: &str, place: usize) -> Option<Named>
     if word.as_bytes().starts_with(OWN) {
         return Some(Named::Own(place));
     }
-    match Table::named(word) {
+    match FixedTable::named(word) {
         Some(table) => Some(Named::Fixed(table)),
         None => None,
     }

@@ -17,7 +17,7 @@ use Rattle.mdoc_converter.specs.declared.page.Kind.TheVariants as kinds
 use Rattle.mdoc_converter.specs.declared.page.Last.{Last}
 use Rattle.mdoc_converter.specs.declared.page.Last.TheVariants as lasts
 use Rattle.mdoc_converter.specs.declared.page.Page.{Page}
-use Rattle.mdoc_converter.specs.declared.page.Row.TheVariants as rows
+use Rattle.mdoc_converter.specs.declared.page.RowPart.TheVariants as rows
 use Rattle.mdoc_converter.specs.declared.page.Scan.TheVariants as scans
 use Rattle.mdoc_converter.specs.declared.page.Section.{Section}
 use Rattle.mdoc_converter.specs.declared.page.Section.TheVariants as sections

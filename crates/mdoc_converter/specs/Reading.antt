@@ -13,7 +13,7 @@ use Rattle.mdoc_converter.specs.declared.page.Lay.{Lay}
 use Rattle.mdoc_converter.specs.declared.page.Page.{Page}
 use Rattle.mdoc_converter.specs.declared.page.Parameters.TheVariants.{Outside}
 use Rattle.mdoc_converter.specs.declared.page.Place.{Place}
-use Rattle.mdoc_converter.specs.declared.page.Row.TheVariants as rows
+use Rattle.mdoc_converter.specs.declared.page.RowPart.TheVariants as rows
 use Rattle.mdoc_converter.specs.declared.page.Scan.{Scan}
 use Rattle.mdoc_converter.specs.declared.page.Scan.TheVariants as scans
 use Rattle.mdoc_converter.specs.declared.page.Section.TheVariants as sections

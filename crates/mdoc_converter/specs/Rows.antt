@@ -7,8 +7,8 @@ use Rattle.mdoc_converter.specs.declared.acts.Request.TheVariants as requests
 use Rattle.mdoc_converter.specs.declared.macros.Macro.{Macro}
 use Rattle.mdoc_converter.specs.declared.macros.Macro.TheVariants as macros
 use Rattle.mdoc_converter.specs.declared.page.Page.{Page}
-use Rattle.mdoc_converter.specs.declared.page.Row.{Row}
-use Rattle.mdoc_converter.specs.declared.page.Row.TheVariants as rows
+use Rattle.mdoc_converter.specs.declared.page.RowPart.{RowPart}
+use Rattle.mdoc_converter.specs.declared.page.RowPart.TheVariants as rows
 use Rattle.mdoc_converter.specs.declared.page.Scan.{Scan}
 use Rattle.mdoc_converter.specs.declared.page.Scan.TheVariants as scans
 use Rattle.mdoc_converter.specs.Keeping.{ends_word, turns}
@@ -33,7 +33,7 @@ abbrev pub ends_table : List ℕ → Bool
 ends_table name = is_table_end (macro_of name)
 
 -- the rest of the line, or the next one
-abbrev pub after_byte : Row → ℕ → Scan
+abbrev pub after_byte : RowPart → ℕ → Scan
 after_byte rest b = if b == code "\n" then scans.Table rows.Start else scans.Table rest
 
 abbrev pub row_passes : ℕ → Page → Offered
@@ -77,7 +77,7 @@ row_words b p =
     turns (scans.Table rows.Rest) (two (acts.Byte (code "\\")) (acts.Byte (code "&"))) p else
     turns (scans.Table rows.Rest) (left acts.Nothing) p
 
-abbrev pub in_table : Row → ℕ → Page → Offered
+abbrev pub in_table : RowPart → ℕ → Page → Offered
 in_table rows.Start b p = row_begins b p
 in_table rows.Control b p = after_row_control b p
 in_table rows.Escape b p = after_row_escape b p

@@ -1,8 +1,8 @@
 -- Strings that mdoc names (mdoc(7), Predefined Strings): `\*(xx` and `\*[xx]`.
 use Rattle.std.specs.Prelude.{ℕ, List, Bool, true, false, ◌==◌, ◌&&◌, if◌then◌else◌, slice_index, Option, None, Some}
 use Prim.Native.Char.{code}
-use Rattle.mdoc_converter.specs.declared.page.Row.{Row}
-use Rattle.mdoc_converter.specs.declared.page.Row.TheVariants as rows
+use Rattle.mdoc_converter.specs.declared.page.RowPart.{RowPart}
+use Rattle.mdoc_converter.specs.declared.page.RowPart.TheVariants as rows
 use Rattle.mdoc_converter.specs.declared.page.Scan.{Scan}
 use Rattle.mdoc_converter.specs.declared.page.Scan.TheVariants as scans
 use Rattle.mdoc_converter.specs.declared.strings.TheConstants.{STRINGS}
@@ -23,7 +23,7 @@ says (Some text) = Says (slice_index text 0) (slice_index text 1) (slice_index t
 abbrev pub named : ℕ → ℕ → Next
 named a b = says (string_named a b)
 
-abbrev pub row_takes_strings : Row → Bool
+abbrev pub row_takes_strings : RowPart → Bool
 row_takes_strings rows.Control = false
 row_takes_strings rows.Escape = false
 row_takes_strings rows.Comment = false

@@ -46,5 +46,5 @@ pub use macros::is_macro;
 pub use page::Block;
 pub use passing::passes_unchanged;
 pub use running::convert;
-pub use staged::Turner;
+pub use staged::MdocConverter;
 pub use word_laws::words_are_said;

@@ -5,7 +5,7 @@ ghost use Rattle.mdoc_converter.specs.Lines as specs;
 
 use super::acts::{Act, Request, Stack, Text};
 use super::macros::{Font, Macro, macro_of};
-use super::page::{Call, Following, Kind, Last, Page, Row, Scan, Section, Split, Wanted};
+use super::page::{Call, Following, Kind, Last, Page, RowPart, Scan, Section, Split, Wanted};
 use super::seen::Seen;
 use nr_units::Name;
 
@@ -265,7 +265,7 @@ impl Page {
         if self.word.as_bytes() != b"TS".as_slice() {
             return self.silent();
         }
-        self.scan = Scan::Table(Row::Rest);
+        self.scan = Scan::Table(RowPart::Rest);
         Seen::two(Act::Request(Request::NoDistance), Act::Control)
     }
 

@@ -19,7 +19,7 @@ pub(crate) enum Dots {
 
 /// Where a line of a table is read.
 #[derive(Clone, Copy)]
-pub(crate) enum Row {
+pub(crate) enum RowPart {
     /// At its beginning.
     Start,
     /// After the control character.
@@ -137,7 +137,7 @@ pub(crate) enum Scan {
     /// Lines pass, up to `..`.
     Ignored(Dots),
     /// Lines of a table pass, up to `.TE`.
-    Table(Row),
+    Table(RowPart),
     /// The line ends.
     Ends,
 }

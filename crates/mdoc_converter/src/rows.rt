@@ -8,7 +8,7 @@ use super::keeping::ends_word;
 use super::lay::is_control;
 use super::lines::is_request;
 use super::macros::{Macro, macro_of};
-use super::page::{Page, Row, Scan};
+use super::page::{Page, RowPart, Scan};
 use super::seen::Seen;
 use nr_units::Name;
 
@@ -27,11 +27,11 @@ fn ends_table(name: &[u8]) -> bool
 }
 
 /// Where the next byte is read: in the rest of the line, or at the beginning of the next.
-fn after_byte(rest: Row, byte: u8) -> Scan
+fn after_byte(rest: RowPart, byte: u8) -> Scan
     ensures { result ≡ specs.after_byte rest byte }
 {
     if byte == b'\n' {
-        Scan::Table(Row::Start)
+        Scan::Table(RowPart::Start)
     } else {
         Scan::Table(rest)
     }
@@ -39,17 +39,20 @@ fn after_byte(rest: Row, byte: u8) -> Scan
 
 impl Page {
     /// A byte of a line of a table.
-    pub(crate) fn in_table(&mut self, row: Row, byte: u8) -> Seen
+    pub(crate) fn in_table(&mut self, row: RowPart, byte: u8) -> Seen
         ensures { offered self.new result ≡ specs.in_table row byte self.old }
     {
         match row {
-            Row::Start => self.row_begins(byte),
-            Row::Control => self.after_row_control(byte),
-            Row::Escape => self.after_row_escape(byte),
-            Row::Comment => self.turns(after_byte(Row::Comment, byte), Seen::taken(Act::Nothing)),
-            Row::Name => self.in_row_name(byte),
-            Row::Words => self.row_words(byte),
-            Row::Rest => self.row_passes(byte),
+            RowPart::Start => self.row_begins(byte),
+            RowPart::Control => self.after_row_control(byte),
+            RowPart::Escape => self.after_row_escape(byte),
+            RowPart::Comment => self.turns(
+                after_byte(RowPart::Comment, byte),
+                Seen::taken(Act::Nothing),
+            ),
+            RowPart::Name => self.in_row_name(byte),
+            RowPart::Words => self.row_words(byte),
+            RowPart::Rest => self.row_passes(byte),
         }
     }
 
@@ -57,7 +60,10 @@ impl Page {
     fn row_passes(&mut self, byte: u8) -> Seen
         ensures { offered self.new result ≡ specs.row_passes byte self.old }
     {
-        self.turns(after_byte(Row::Rest, byte), Seen::taken(Act::Byte(byte)))
+        self.turns(
+            after_byte(RowPart::Rest, byte),
+            Seen::taken(Act::Byte(byte)),
+        )
     }
 
     /// At the beginning of a line.
@@ -65,7 +71,7 @@ impl Page {
         ensures { offered self.new result ≡ specs.row_begins byte self.old }
     {
         if is_control(byte) {
-            return self.turns(Scan::Table(Row::Control), Seen::taken(Act::Nothing));
+            return self.turns(Scan::Table(RowPart::Control), Seen::taken(Act::Nothing));
         }
         self.row_passes(byte)
     }
@@ -76,11 +82,11 @@ impl Page {
     {
         match byte {
             b' ' | b'\t' => Seen::taken(Act::Nothing),
-            b'\n' => self.turns(Scan::Table(Row::Start), Seen::taken(Act::Nothing)),
-            b'\\' => self.turns(Scan::Table(Row::Escape), Seen::taken(Act::Nothing)),
+            b'\n' => self.turns(Scan::Table(RowPart::Start), Seen::taken(Act::Nothing)),
+            b'\\' => self.turns(Scan::Table(RowPart::Escape), Seen::taken(Act::Nothing)),
             _ => {
                 self.word = Name::of(&[byte]);
-                self.turns(Scan::Table(Row::Name), Seen::taken(Act::Nothing))
+                self.turns(Scan::Table(RowPart::Name), Seen::taken(Act::Nothing))
             }
         }
     }
@@ -90,10 +96,10 @@ impl Page {
         ensures { offered self.new result ≡ specs.after_row_escape byte self.old }
     {
         if byte == b'"' || byte == b'#' {
-            return self.turns(Scan::Table(Row::Comment), Seen::taken(Act::Nothing));
+            return self.turns(Scan::Table(RowPart::Comment), Seen::taken(Act::Nothing));
         }
         self.word = Name::of(&[b'\\']);
-        self.turns(Scan::Table(Row::Rest), Seen::left(Act::Control))
+        self.turns(Scan::Table(RowPart::Rest), Seen::left(Act::Control))
     }
 
     /// In the name of a control line.
@@ -118,9 +124,9 @@ impl Page {
             );
         }
         if passes(self.word.as_bytes()) {
-            return self.turns(Scan::Table(Row::Rest), Seen::left(Act::Control));
+            return self.turns(Scan::Table(RowPart::Rest), Seen::left(Act::Control));
         }
-        self.turns(Scan::Table(Row::Words), Seen::left(Act::Nothing))
+        self.turns(Scan::Table(RowPart::Words), Seen::left(Act::Nothing))
     }
 
     /// The words of a macro are text of the table.
@@ -131,14 +137,14 @@ impl Page {
             return Seen::taken(Act::Nothing);
         }
         if byte == b'\n' {
-            return self.turns(Scan::Table(Row::Start), Seen::taken(Act::Nothing));
+            return self.turns(Scan::Table(RowPart::Start), Seen::taken(Act::Nothing));
         }
         if is_control(byte) {
             return self.turns(
-                Scan::Table(Row::Rest),
+                Scan::Table(RowPart::Rest),
                 Seen::two(Act::Byte(b'\\'), Act::Byte(b'&')),
             );
         }
-        self.turns(Scan::Table(Row::Rest), Seen::left(Act::Nothing))
+        self.turns(Scan::Table(RowPart::Rest), Seen::left(Act::Nothing))
     }
 }

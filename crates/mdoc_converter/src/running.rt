@@ -7,7 +7,7 @@ ghost use Rattle.mdoc_converter.specs.Running.{Ran};
 ghost use Rattle.mdoc_converter.specs.Staged.{said, steps_said};
 
 use super::page::Block;
-use super::staged::Turner;
+use super::staged::MdocConverter;
 use document_stages::{RunEnd, run};
 use nr_units::sink::Sink;
 use nr_units::source::Source;
@@ -48,7 +48,7 @@ pub fn convert<R: Source, W: Sink>(
     ensures read_faults { TellsReads result (R.failures input.old) (R.failures input.new) }
     ensures write_faults { W.failures output.new ≡ put_counted_if (is_write_fault result) (W.failures output.old) }
 {
-    let mut page = Turner::over(blocks);
+    let mut page = MdocConverter::over(blocks);
     let outcome = run(&mut page, input, output, buffer);
     *steps = page.steps();
     outcome

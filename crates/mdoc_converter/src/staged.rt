@@ -12,7 +12,7 @@ use nr_vectors::slice_vec::SliceVec;
 /// Proved: A page that is turned a part at a time comes to the same: what goes out of the parts, one after another,
 /// and of the end is `converted`, in whatever parts it comes.
 #[derive(Drop)]
-pub struct Turner<'a> {
+pub struct MdocConverter<'a> {
     reader: Reader,
     blocks: SliceVec<'a, Block>,
     // So many steps were made, or more than it can say.
@@ -69,19 +69,19 @@ fn read_some(
     }
 }
 
-impl<'a> Turner<'a> {
+impl<'a> MdocConverter<'a> {
     ghost use Rattle.mdoc_converter.specs.Staged.{counted, said};
     ghost use Rattle.document_stages.specs.Pulling.{fits_always};
 
     /// A page begins. The room for the lists and displays that are open is 64 at least; what it held is of no account.
-    pub fn over(blocks: &'a mut [Block]) -> Turner<'a>
+    pub fn over(blocks: &'a mut [Block]) -> MdocConverter<'a>
         requires { 64 ≤ length blocks.now }
-        ensures says { ⟦<Turner<'a> as Stage>⟧.says result ≡ said first_state }
-        ensures fits { ⟦<Turner<'a> as Stage>⟧.fits result ≡ fits_always }
-        ensures counts { ⟦<Turner<'a> as Stage>⟧.counts result ≡ counted 0 first_state }
-        ensures wants { ⟦<Turner<'a> as Stage>⟧.wants result ≡ 73984 }
+        ensures says { ⟦<MdocConverter<'a> as Stage>⟧.says result ≡ said first_state }
+        ensures fits { ⟦<MdocConverter<'a> as Stage>⟧.fits result ≡ fits_always }
+        ensures counts { ⟦<MdocConverter<'a> as Stage>⟧.counts result ≡ counted 0 first_state }
+        ensures wants { ⟦<MdocConverter<'a> as Stage>⟧.wants result ≡ 73984 }
     {
-        Turner {
+        MdocConverter {
             reader: Reader::new(),
             blocks: SliceVec::over(blocks),
             steps: 0,
@@ -90,13 +90,13 @@ impl<'a> Turner<'a> {
 
     /// How many steps were made.
     pub fn steps(&self) -> u64
-        ensures { result ≡ ⟦<Turner<'a> as Stage>⟧.counts self.now false [] }
+        ensures { result ≡ ⟦<MdocConverter<'a> as Stage>⟧.counts self.now false [] }
     {
         self.steps
     }
 }
 
-impl Stage for Turner<'_> {
+impl Stage for MdocConverter<'_> {
     ghost use Rattle.std.specs.Prelude.{refl};
     ghost use Rattle.document_stages.specs.Pulling.{fits_always};
     ghost use Rattle.mdoc_converter.specs.Reading.{state};

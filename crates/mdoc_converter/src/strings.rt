@@ -5,7 +5,7 @@ ghost use Rattle.mdoc_converter.specs.Reading.{state};
 ghost use Rattle.mdoc_converter.specs.Strings as strings;
 
 use super::macros::looked_up;
-use super::page::{Block, Row, Scan};
+use super::page::{Block, RowPart, Scan};
 use super::pending::Pending;
 use super::reader::Reader;
 use super::texts::prefix_of;
@@ -82,7 +82,8 @@ fn takes_strings(scan: Scan) -> bool
         | Scan::Dropped
         | Scan::Defines
         | Scan::Ignored(_)
-        | Scan::Table(Row::Control | Row::Escape | Row::Comment | Row::Name) => false,
+        | Scan::Table(RowPart::Control | RowPart::Escape | RowPart::Comment | RowPart::Name) =>
+            false,
         _ => true,
     }
 }
@@ -389,7 +390,7 @@ impl Reader {
                 0
             }
             Scan::Passes => 0,
-            Scan::Start | Scan::Table(Row::Start) => {
+            Scan::Start | Scan::Table(RowPart::Start) => {
                 self.page.freshen(out);
                 0
             }

@@ -1,4 +1,4 @@
-//! The state of a run, kept in the memory that it is lent, and its moves.
+//! The state of a run, kept in memory that is taken once, and its moves.
 ghost use Rattle.std.specs.Prelude.{◌≡◌, ◌+◌};
 
 use crate::lengths::Sizes;

@@ -17,11 +17,11 @@ use Rattle.nr_reading.specs.declared.notes.Notes.{Notes}
 use Rattle.nr_reading.specs.Many.ControlNames.{IsSign, NameEnds, goes_on_name, after_name}
 use Rattle.nr_reading.specs.Delimited.{Texts}
 use Rattle.nr_reading.specs.Half.{reads_next}
-use Rattle.nr_reading.specs.Many.Row.{LeadsOn}
+use Rattle.nr_reading.specs.Many.Stretch.{LeadsOn}
 use Rattle.nr_reading.specs.Spelled.{ends_name, is_blank, nothing_spelled, spelled}
 use Rattle.nr_reading.proofs.Asked.{half_at}
 use Rattle.nr_reading.proofs.PlainBytes.{neither}
-use Rattle.nr_reading.proofs.Rows.{TakesInByte, standing, stays, taken_more, left_more, recount, apart_from}
+use Rattle.nr_reading.proofs.Stretches.{TakesInByte, standing, stays, taken_more, left_more, recount, apart_from}
 use Rattle.nr_reading.proofs.Weighing.{at}
 
 -- a byte that goes on a name
@@ -77,7 +77,7 @@ module _ (c : Bool) (s : Signs) (d : Texts) (o : Notes) where
       → TakesIn b (half_at (at modes.Name escapes.Plain c n) s [] d (record o { name = name })) (half_at (record (at modes.Name escapes.Plain c n) { pending_act = pending_acts.Seek }) s [] d (record o { name = name })) false
   takes_in_end b n name ends = rw (apart_from ends_name b (code "\\") ends refl, ends) refl
 
--- the sign and the first byte of the name that come at a place of a row
+-- the sign and the first byte of the name that come at a place of a stretch
 module _ (fs : List NextItem) (place n : ℕ) (h : Half) (sign a : ℕ) (quiets : Bool) (start : h.reading.mode ≡ modes.Start) (next : reads_next h ≡ true) (within : place + 3 ≤ length fs)
     (first : slice_get fs place ≡ Some (next_items.Byte sign)) (second : slice_get fs (place + 1) ≡ Some (next_items.Byte a)) (is : IsSign sign quiets h.signs) (goes_a : goes_on_name a ≡ true) where
   abbrev before : Half

@@ -1,4 +1,4 @@
--- Interpolations that stand whole in a row, taken in at once.
+-- Interpolations that stand whole in a stretch, taken in at once.
 use Prim.Native.Char.{code}
 use Rattle.std.specs.Prelude.{slice_get, ◌==◌, ◌||◌, not}
 use Rattle.std.proofs.Common.{◌≡◌, ℕ, ◌+◌, ◌<◌, Bool, true, false, List, [], ◌∷◌, length, Some, inl, inr, refl, sym, subst, ap, ◌∙◌, arith}
@@ -156,7 +156,7 @@ module _ (c n : Bool) (s : Signs) (d : Texts) (o : Notes) where
   second_ends (kinds.Register s) a b m is byte = rw (byte.escape, byte.newline) refl
   second_ends k a b m is byte = absurd (let wrong : false ≡ true = is in cc)
 
--- ---- in a row
+-- ---- in a stretch
 
 -- one byte more
 tells_more : (k taken b : ℕ) (fs : List NextItem) (h j new : Half) (e : Event) → HasTakenIn k fs h (quiet taken j) → taken < length fs → j.reading.pending_act ≡ pending_acts.Look → slice_get fs taken ≡ Some (next_items.Byte b) → Tells b j new e

@@ -1,4 +1,4 @@
--- One move more of a row.
+-- One move more of a stretch.
 use Rattle.std.specs.Prelude.{slice_get}
 use Rattle.std.specs.Int.{from_bool}
 use Rattle.std.proofs.Common.{◌≡◌, ℕ, ◌+◌, ◌-◌, ◌*◌, ◌<◌, ◌≤◌, Bool, true, false, List, length, Some, Option, refl, sym, subst, ap, ◌∙◌, add-one, below_more, arith}

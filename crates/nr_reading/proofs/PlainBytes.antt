@@ -26,7 +26,7 @@ use Rattle.nr_reading.proofs.Moving.{taken_in_more}
 use Rattle.nr_reading.proofs.Paying.{pays_for}
 use Rattle.nr_reading.proofs.Weighing.{at}
 
--- ---- from the first item of a row to a place
+-- ---- from the first item of a stretch to a place
 
 -- the byte is taken, and tells nothing
 abbrev taking : Seen

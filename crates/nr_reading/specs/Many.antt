@@ -1,13 +1,13 @@
--- For speed: many items at once: rows of bytes, and what a row may be passed by.
+-- For speed: many items at once: stretches of bytes, and what a stretch may be passed by.
 pub mod Runs
-pub mod Row
+pub mod Stretch
 pub mod Passing
 pub mod ControlNames
 pub mod Interpolations
 pub mod RequestLines
 pub mod Braces
-pub mod ConditionRows
-pub mod StringRows
+pub mod ConditionStretches
+pub mod StringStretches
 pub mod InText
 pub mod InArgument
 pub mod InDefinition

@@ -4,9 +4,9 @@
 //! `notes`, `delimited`, `asks`; `escape`; a file for each group of modes, `text`, `text_escape`, `titles`,
 //! `control`, `strings`, `definitions`, `conditions`, `skipping`; `reader`, which puts them together, and
 //! `half`, where an item is taken in; `seeking`, `conditionals` and `setting`, what comes from outside; `runs`, many
-//! items at once, with `passing`, `row`, `control_names`, `interpolations`, `arguments`, `request_lines`, `braces` and
-//! `defined_texts`; and a file for each group of modes whose rows have loops of their own, `line_rows`, `condition_rows`,
-//! `request_rows`, `part_rows`, `argument_rows`, `string_rows`.
+//! items at once, with `passing`, `stretch`, `control_names`, `interpolations`, `arguments`, `request_lines`, `braces` and
+//! `defined_texts`; and a file for each group of modes whose stretches have loops of their own, `line_stretches`, `condition_stretches`,
+//! `request_stretches`, `part_stretches`, `argument_stretches`, `string_stretches`.
 //!
 //! Proved: The end of a level does nothing to what is half read. (`take_in-mark` in Marks.antt)
 #![tactic(auto)]

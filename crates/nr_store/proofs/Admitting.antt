@@ -5,7 +5,7 @@ use Rattle.std.specs.Option.{option_map, unwrap_or}
 use Rattle.nr_vectors.specs.Items.{Items}
 use Rattle.nr_pool.specs.Texts.{Texts, text}
 use Rattle.nr_symbol_tables.specs.Table.{Named, find}
-use Rattle.nr_symbol_tables.specs.Rows.{Table}
+use Rattle.nr_symbol_tables.specs.Rows.{SymbolTable}
 use Rattle.nr_levels.specs.Levels.{Levels}
 use Rattle.nr_store.specs.declared.named.Sense.{Sense}
 use Rattle.nr_store.specs.declared.named.Sense.TheVariants as senses
@@ -54,7 +54,7 @@ module _ {K X : Type 0} (charge limit cost : ℕ) (resume : Option K) (arguments
   answer_admitted room deeper = let all = more in let charged = h.charged in let same = h.same_limit in admitted (reading xs arguments cost resume t v) x (omega arith) (omega arith)
 
 -- a text that has a name
-pub record IsNamed (p : Texts Element) (names : Table Sense) (charge id : ℕ) : Type 0 where
+pub record IsNamed (p : Texts Element) (names : SymbolTable Sense) (charge id : ℕ) : Type 0 where
   pub counted : 0 < count id (values names.entries)
   pub there : IsThere p charge id
 
@@ -64,7 +64,7 @@ text_found None id is = let no : ⊥ = cc in absurd no
 text_found (Some (senses.Request r)) id is = let no : ⊥ = cc in absurd no
 text_found (Some (senses.Text k)) id is = let same : k ≡ id = cc in ap (λ j. Some (senses.Text j)) same
 
-pub is_named : {K : Type 0} (p : Texts Element) (names : Table Sense) (drafts : Items Draft) (levels : Levels K) (beside : Beside) (charge limit : ℕ) (name : List ℕ) (id : ℕ) (o : Option ℕ) → IsStore p names drafts levels beside charge limit
+pub is_named : {K : Type 0} (p : Texts Element) (names : SymbolTable Sense) (drafts : Items Draft) (levels : Levels K) (beside : Beside) (charge limit : ℕ) (name : List ℕ) (id : ℕ) (o : Option ℕ) → IsStore p names drafts levels beside charge limit
     → o ≡ text_id (find name names.entries) → o ≡ Some id → IsNamed p names charge id
 is_named p names drafts levels beside charge limit name id o h is some =
     let counted = find_counts name id names.entries (sym is ∙ some) in

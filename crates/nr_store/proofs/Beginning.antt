@@ -6,7 +6,7 @@ use Rattle.std.proofs.lemmas.Bool.{cases_lt}
 use Rattle.nr_vectors.specs.Items.{Items}
 use Rattle.nr_pool.specs.Texts.{Held, Texts, no_text, entry, holders}
 use Rattle.nr_symbol_tables.specs.Table.{Named, find, put}
-use Rattle.nr_symbol_tables.specs.Rows.{Table}
+use Rattle.nr_symbol_tables.specs.Rows.{SymbolTable}
 use Rattle.nr_symbol_tables.specs.Given.{word_in}
 use Rattle.nr_levels.specs.Levels.{Levels}
 use Rattle.nr_store.specs.declared.named.Sense.{Sense}
@@ -59,7 +59,7 @@ bare_entry p n k empty = ap (λ ts. get_or ts k no_text) empty ∙ elim (cases_l
   | inr past ↦ get_or_past (replicate n no_text) k no_text (omega (arith, length-replicate n (no_text {T = Element})))
 ]
 
-module _ {K : Type 0} (p : Texts Element) (names : Table Sense) (drafts : Items Draft) (levels : Levels K) (beside : Beside) (limit n : ℕ) (empty : p.texts ≡ replicate n no_text) (named : names.entries ≡ with_senses REQUESTS [])
+module _ {K : Type 0} (p : Texts Element) (names : SymbolTable Sense) (drafts : Items Draft) (levels : Levels K) (beside : Beside) (limit n : ℕ) (empty : p.texts ≡ replicate n no_text) (named : names.entries ≡ with_senses REQUESTS [])
     (no_drafts : drafts.items ≡ []) (no_levels : levels.levels ≡ []) (no_beside : charge_beside beside.gathering.gathered beside.registers.entries beside.traps.items (map word_in beside.words.items) ≡ 0) where
   nothing_of : (f : Sense → ℕ) → ((r : Request) → f (senses.Request r) ≤ 0) → sum_of f names.entries ≡ 0
   nothing_of f each = let all = senses_sum-le f 0 each REQUESTS [] in let is = ap (sum_of f) named in omega arith
@@ -158,7 +158,7 @@ shows p ns ds ls g rs ts ws limit = record {
   deepest = ls.most;
 }
 
-pub begun : {K : Type 0} (p : Texts Element) (entries : List (Named Sense)) (drafts : Items Draft) (levels : Levels K) (gathering : Gathering) (registers : Table Register) (traps : Items Trap) (words : Items HyphenationWord) (limit room most : ℕ)
+pub begun : {K : Type 0} (p : Texts Element) (entries : List (Named Sense)) (drafts : Items Draft) (levels : Levels K) (gathering : Gathering) (registers : SymbolTable Register) (traps : Items Trap) (words : Items HyphenationWord) (limit room most : ℕ)
     → entries ≡ with_senses REQUESTS [] → drafts.items ≡ [] → levels ≡ record { levels = []; arguments = []; capacity = room; most = most } → gathering.gathered ≡ none_gathered → registers.entries ≡ [] → traps.items ≡ [] → words.items ≡ []
     → stored_of p entries drafts.items levels (beside_of gathering registers traps words) limit ≡ nothing request_names limit most
 unfolding shows

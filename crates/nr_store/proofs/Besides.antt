@@ -4,7 +4,7 @@ use Rattle.std.proofs.lemmas.List.Sums.{sum_by-cons}
 use Rattle.nr_vectors.specs.Items.{Items}
 use Rattle.nr_pool.specs.Texts.{Texts}
 use Rattle.nr_symbol_tables.specs.Table.{Named, find, put, without}
-use Rattle.nr_symbol_tables.specs.Rows.{Table}
+use Rattle.nr_symbol_tables.specs.Rows.{SymbolTable}
 use Rattle.nr_levels.specs.Levels.{Levels}
 use Rattle.nr_levels.specs.Gathering.{Gathered, Gathering, bytes_in, gathered_len, with_byte, with_bytes}
 use Rattle.nr_levels.specs.Laws.{with_bytes-more, with_bytes-append}
@@ -18,7 +18,7 @@ use Rattle.nr_store.specs.Store.{Stored, charge_of, gathering}
 use Rattle.nr_store.specs.Holders.{Beside, Suffice, beside_of, stored_of, beside_cost, IsStore}
 use Rattle.nr_store.proofs.Naming.{sum_of, put_sum, put_sum_new, without_sum}
 
-module _ {K : Type 0} (p : Texts Element) (names : Table Sense) (drafts : Items Draft) (levels : Levels K) (beside : Beside) (charge limit : ℕ) (h : IsStore p names drafts levels beside charge limit) where
+module _ {K : Type 0} (p : Texts Element) (names : SymbolTable Sense) (drafts : Items Draft) (levels : Levels K) (beside : Beside) (charge limit : ℕ) (h : IsStore p names drafts levels beside charge limit) where
   pub beside_paid : beside_cost beside ≤ charge
   beside_paid = let charged = h.charged in omega arith
 
@@ -52,7 +52,7 @@ pub bytes_more : (bytes : List ℕ) (g : Gathered) → eqb (length g.kept) 9 ≡
 bytes_more bytes g more = ap gathered_len (with_bytes-more bytes g more) ∙ (let all = length-append g.last bytes in let e : bytes_in g.kept + length (g.last ++ bytes) ≡ gathered_len g + length bytes = omega arith in e)
 
 -- with bytes more, for which there is room
-module _ {K : Type 0} (p : Texts Element) (names : Table Sense) (drafts : Items Draft) (levels : Levels K) (g : Gathering) (registers : Table Register) (traps : Items Trap) (words : Items HyphenationWord) (charge limit : ℕ)
+module _ {K : Type 0} (p : Texts Element) (names : SymbolTable Sense) (drafts : Items Draft) (levels : Levels K) (g : Gathering) (registers : SymbolTable Register) (traps : Items Trap) (words : Items HyphenationWord) (charge limit : ℕ)
     (h : IsStore p names drafts levels (beside_of g registers traps words) charge limit) (more : eqb (length g.gathered.kept) 9 ≡ false) (bytes : List ℕ) (count : ℕ) (long : length bytes ≡ count) where
   abbrev pub extended : Beside
   extended = beside_of (record g { gathered = with_bytes bytes g.gathered }) registers traps words

@@ -9,7 +9,7 @@ use Rattle.nr_vectors.specs.Items.{Items}
 use Rattle.nr_pool.specs.Texts.{Held, Texts, no_text, text, holders, opened, with_text}
 use Rattle.nr_pool.specs.Laws.{within_of_open, entry-with_entry_same, entry-with_entry_other, text-with_text_same, text-with_text_other, holders-with_text}
 use Rattle.nr_symbol_tables.specs.Table.{Named}
-use Rattle.nr_symbol_tables.specs.Rows.{Table}
+use Rattle.nr_symbol_tables.specs.Rows.{SymbolTable}
 use Rattle.nr_levels.specs.Levels.{Open, Levels}
 use Rattle.nr_store.specs.declared.named.Sense.{Sense}
 use Rattle.nr_store.specs.declared.element.Element.{Element}
@@ -51,7 +51,7 @@ pub record Within {K : Type 0} (v : Stored K) (charge limit : ℕ) : Type 0 wher
   pub within : charge ≤ limit
   pub deep : length v.levels ≤ v.deepest
 
-pub is_within : {K : Type 0} (p : Texts Element) (names : Table Sense) (drafts : Items Draft) (levels : Levels K) (beside : Beside) (charge limit : ℕ) (v : Stored K) → IsStore p names drafts levels beside charge limit
+pub is_within : {K : Type 0} (p : Texts Element) (names : SymbolTable Sense) (drafts : Items Draft) (levels : Levels K) (beside : Beside) (charge limit : ℕ) (v : Stored K) → IsStore p names drafts levels beside charge limit
     → stored_of p names.entries drafts.items levels beside limit ≡ v → Within v charge limit
 is_within p names drafts levels beside charge limit v h view =
     let same_most : levels.most ≡ v.deepest = ap (λ (w : Stored _). w.deepest) view in
@@ -95,7 +95,7 @@ view_building p q names drafts levels beside limit d t keeps is =
 abbrev fresh_text : Held Element
 fresh_text = record { elements = []; holders = 1 }
 
-module _ {K : Type 0} (p : Texts Element) (names : Table Sense) (drafts : Items Draft) (levels : Levels K) (beside : Beside) (charge limit id : ℕ) (dv : Option Diversion) (h : IsStore p names drafts levels beside charge limit)
+module _ {K : Type 0} (p : Texts Element) (names : SymbolTable Sense) (drafts : Items Draft) (levels : Levels K) (beside : Beside) (charge limit id : ℕ) (dv : Option Diversion) (h : IsStore p names drafts levels beside charge limit)
     (free : slice_get p.texts id ≡ Some no_text) where
   abbrev new : Draft
   new = record { id = id; diversion = dv }
@@ -167,7 +167,7 @@ building_length (b ∷ bs) =
     omega arith
 
 -- where 48 more are within the limit, there is room for a draft
-pub room_for_a_draft : {K : Type 0} (p : Texts Element) (names : Table Sense) (drafts : Items Draft) (levels : Levels K) (beside : Beside) (charge limit : ℕ) → IsStore p names drafts levels beside charge limit → charge + 48 ≤ limit
+pub room_for_a_draft : {K : Type 0} (p : Texts Element) (names : SymbolTable Sense) (drafts : Items Draft) (levels : Levels K) (beside : Beside) (charge limit : ℕ) → IsStore p names drafts levels beside charge limit → charge + 48 ≤ limit
     → length drafts.items < drafts.capacity
 room_for_a_draft p names drafts levels beside charge limit h room =
     let long = building_length (map (built_of p) drafts.items) in
@@ -178,7 +178,7 @@ room_for_a_draft p names drafts levels beside charge limit h room =
 
 -- ---- more elements
 
-module _ {K : Type 0} (p : Texts Element) (names : Table Sense) (drafts : Items Draft) (levels : Levels K) (beside : Beside) (charge limit : ℕ) (d : Draft) (ds : List Draft) (xs : List Element)
+module _ {K : Type 0} (p : Texts Element) (names : SymbolTable Sense) (drafts : Items Draft) (levels : Levels K) (beside : Beside) (charge limit : ℕ) (d : Draft) (ds : List Draft) (xs : List Element)
     (h : IsStore p names drafts levels beside charge limit) (first : drafts.items ≡ d ∷ ds) where
   grown : Texts Element
   grown = with_text p d.id (text p d.id ++ xs)
@@ -268,7 +268,7 @@ module _ {K : Type 0} (p : Texts Element) (names : Table Sense) (drafts : Items 
       ap charge_of is ∙ charge_of-grown xs (built_of p d) (map (built_of p) ds) d.diversion (stored_of p names.entries drafts.items levels beside limit) (ap (map (built_of p)) first) ∙ ap (λ n. n + length xs) (sym was)
 
 -- with so many elements more, for which there is room
-module _ {K : Type 0} (p : Texts Element) (names : Table Sense) (drafts : Items Draft) (levels : Levels K) (beside : Beside) (charge limit : ℕ) (d : Draft) (ds : List Draft) (xs : List Element) (count : ℕ)
+module _ {K : Type 0} (p : Texts Element) (names : SymbolTable Sense) (drafts : Items Draft) (levels : Levels K) (beside : Beside) (charge limit : ℕ) (d : Draft) (ds : List Draft) (xs : List Element) (count : ℕ)
     (h : IsStore p names drafts levels beside charge limit) (first : drafts.items ≡ d ∷ ds) (long : length xs ≡ count) (room : charge + count ≤ limit) where
   pub run_stands : IsStore (with_text p d.id (text p d.id ++ xs)) names drafts levels beside (charge + count) limit
   run_stands =

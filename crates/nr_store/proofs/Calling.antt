@@ -4,7 +4,7 @@ use Rattle.std.specs.Option.{option_map}
 use Rattle.nr_vectors.specs.Items.{Items}
 use Rattle.nr_pool.specs.Texts.{Texts, text}
 use Rattle.nr_symbol_tables.specs.Table.{find}
-use Rattle.nr_symbol_tables.specs.Rows.{Table}
+use Rattle.nr_symbol_tables.specs.Rows.{SymbolTable}
 use Rattle.nr_symbol_tables.specs.declared.trap.Trap.{Trap}
 use Rattle.nr_symbol_tables.specs.declared.word.HyphenationWord.{HyphenationWord}
 use Rattle.nr_levels.specs.Levels.{Levels}
@@ -23,10 +23,10 @@ use Rattle.nr_store.proofs.Building.{Within, is_within}
 use Rattle.nr_store.proofs.Besides.{beside_paid, beside_stands}
 
 -- with no arguments being read
-abbrev pub cleared : Gathering → Table Register → Items Trap → Items HyphenationWord → Beside
+abbrev pub cleared : Gathering → SymbolTable Register → Items Trap → Items HyphenationWord → Beside
 cleared gathering registers traps words = beside_of (record gathering { gathered = none_gathered }) registers traps words
 
-module _ {K : Type 0} (p : Texts Element) (names : Table Sense) (drafts : Items Draft) (levels : Levels K) (gathering : Gathering) (registers : Table Register) (traps : Items Trap) (words : Items HyphenationWord) (charge limit : ℕ)
+module _ {K : Type 0} (p : Texts Element) (names : SymbolTable Sense) (drafts : Items Draft) (levels : Levels K) (gathering : Gathering) (registers : SymbolTable Register) (traps : Items Trap) (words : Items HyphenationWord) (charge limit : ℕ)
     (h : IsStore p names drafts levels (beside_of gathering registers traps words) charge limit) where
   pub clear_stands : IsStore p names drafts levels (cleared gathering registers traps words) (charge - gathered_len gathering.gathered) limit
   clear_stands =

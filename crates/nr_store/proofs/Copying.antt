@@ -3,7 +3,7 @@ use Rattle.std.proofs.Common.{◌≡◌, ℕ, ◌+◌, ◌<◌, ◌≤◌, List,
 use Rattle.std.specs.List.{slice_get}
 use Rattle.nr_vectors.specs.Items.{Items}
 use Rattle.nr_pool.specs.Texts.{Texts, no_text, text, used, IsOpen, opened, with_text}
-use Rattle.nr_symbol_tables.specs.Rows.{Table}
+use Rattle.nr_symbol_tables.specs.Rows.{SymbolTable}
 use Rattle.nr_levels.specs.Levels.{Levels}
 use Rattle.nr_store.specs.declared.named.Sense.{Sense}
 use Rattle.nr_store.specs.declared.element.Element.{Element}
@@ -29,7 +29,7 @@ module _ {K X : Type 0} (charge limit : ℕ) (v : Stored K) (t : List Element) (
       let same = h.same_limit in
       affordable (begun t dv v) x (omega arith)
 
-module _ {K : Type 0} (p : Texts Element) (names : Table Sense) (drafts : Items Draft) (levels : Levels K) (beside : Beside) (charge limit id from : ℕ) (dv : Option Diversion) (h : IsStore p names drafts levels beside charge limit)
+module _ {K : Type 0} (p : Texts Element) (names : SymbolTable Sense) (drafts : Items Draft) (levels : Levels K) (beside : Beside) (charge limit id from : ℕ) (dv : Option Diversion) (h : IsStore p names drafts levels beside charge limit)
     (free : slice_get p.texts id ≡ Some no_text) (there : IsOpen p from) (room : charge + weight (text p from) ≤ limit) where
   abbrev new : Draft
   new = record { id = id; diversion = dv }

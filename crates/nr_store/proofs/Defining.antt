@@ -5,7 +5,7 @@ use Rattle.std.proofs.lemmas.List.Sums.{sum_by-cons}
 use Rattle.nr_vectors.specs.Items.{Items}
 use Rattle.nr_pool.specs.Texts.{Texts, text, holders, IsOpen, released}
 use Rattle.nr_symbol_tables.specs.Table.{Named, find, put}
-use Rattle.nr_symbol_tables.specs.Rows.{Table}
+use Rattle.nr_symbol_tables.specs.Rows.{SymbolTable}
 use Rattle.nr_levels.specs.Levels.{Open, Levels}
 use Rattle.nr_store.specs.declared.named.Sense.{Sense}
 use Rattle.nr_store.specs.declared.named.Sense.TheVariants as senses
@@ -58,7 +58,7 @@ pub count-held : {K : Type 0} (k : ℕ) (names : List (Named Sense)) (building :
 count-held k names building levels =
     count-append k (values names) (building ++ ids_of levels) ∙ ap₂ (λ a b. a + b) (count-values k names) (count-append k building (ids_of levels))
 
-module _ {K : Type 0} (p : Texts Element) (names : Table Sense) (drafts : Items Draft) (levels : Levels K) (beside : Beside) (charge limit : ℕ) (h : IsStore p names drafts levels beside charge limit) where
+module _ {K : Type 0} (p : Texts Element) (names : SymbolTable Sense) (drafts : Items Draft) (levels : Levels K) (beside : Beside) (charge limit : ℕ) (h : IsStore p names drafts levels beside charge limit) where
   pub room_for_a_name : 0 < length drafts.items → length names.entries < names.capacity
   room_for_a_name some =
       let of_names = names_charge p names.entries in

@@ -6,7 +6,7 @@ use Rattle.std.specs.Option.{option_map}
 use Rattle.nr_vectors.specs.Items.{Items}
 use Rattle.nr_pool.specs.Texts.{Texts, text, IsOpen, released}
 use Rattle.nr_symbol_tables.specs.Table.{Named, find, put, without}
-use Rattle.nr_symbol_tables.specs.Rows.{Table}
+use Rattle.nr_symbol_tables.specs.Rows.{SymbolTable}
 use Rattle.nr_levels.specs.Levels.{Levels}
 use Rattle.nr_store.specs.declared.named.Sense.{Sense}
 use Rattle.nr_store.specs.declared.named.Sense.TheVariants as senses
@@ -25,7 +25,7 @@ use Rattle.nr_store.proofs.Naming.{ones, sum_of, put_sum, put_sum_new, put-map, 
 use Rattle.nr_store.proofs.Defining.{cost_of, cost_acts, names_charge, names_length, count-held, moved_stands, old_open, released_view, released_stands, values_of, texts_same, fewer_built, defined_is, new_counts, new_charge, new_acts, new_named, again_counts, again_charge, again_held, again_acts}
 
 -- where a text is let go
-pub record Dropped {K : Type 0} (p : Texts Element) (names : Table Sense) (drafts : Items Draft) (levels : Levels K) (beside : Beside) (charge limit : ℕ) (ns : List (Named Sense)) (ds : List Draft) (old : ℕ) (v : Stored K) : Type 0 where
+pub record Dropped {K : Type 0} (p : Texts Element) (names : SymbolTable Sense) (drafts : Items Draft) (levels : Levels K) (beside : Beside) (charge limit : ℕ) (ns : List (Named Sense)) (ds : List Draft) (old : ℕ) (v : Stored K) : Type 0 where
   pub is_open : IsOpen p old
   pub short : share (text p old) ≤ charge
   pub weighs : 32 + lone p old ≤ charge
@@ -34,13 +34,13 @@ pub record Dropped {K : Type 0} (p : Texts Element) (names : Table Sense) (draft
   pub no_more : charge_of (stored_of (released p old) ns ds levels beside limit) ≤ charge_of (stored_of p names.entries drafts.items levels beside limit)
 
 -- where none is
-pub record Moved {K : Type 0} (p : Texts Element) (names : Table Sense) (drafts : Items Draft) (levels : Levels K) (beside : Beside) (charge limit : ℕ) (ns : List (Named Sense)) (ds : List Draft) (v : Stored K) : Type 0 where
+pub record Moved {K : Type 0} (p : Texts Element) (names : SymbolTable Sense) (drafts : Items Draft) (levels : Levels K) (beside : Beside) (charge limit : ℕ) (ns : List (Named Sense)) (ds : List Draft) (v : Stored K) : Type 0 where
   pub stands : IsStore p (record names { entries = ns }) (record drafts { items = ds }) levels beside charge limit
   pub is : stored_of p ns ds levels beside limit ≡ v
   pub no_more : charge_of (stored_of p ns ds levels beside limit) ≤ charge_of (stored_of p names.entries drafts.items levels beside limit)
 
 -- where what a name stood for is given up
-pub record Changed {K : Type 0} (p : Texts Element) (names : Table Sense) (drafts : Items Draft) (levels : Levels K) (beside : Beside) (charge limit : ℕ) (ns : List (Named Sense)) (ds : List Draft) (old : Sense) (v : Stored K) : Type 0 where
+pub record Changed {K : Type 0} (p : Texts Element) (names : SymbolTable Sense) (drafts : Items Draft) (levels : Levels K) (beside : Beside) (charge limit : ℕ) (ns : List (Named Sense)) (ds : List Draft) (old : Sense) (v : Stored K) : Type 0 where
   pub fewer : (k : ℕ) → 0 < count k (draft_ids ds) → 0 < count k (draft_ids drafts.items)
   pub counts : (k : ℕ) → count k (held_ids names.entries (draft_ids drafts.items) levels.levels) ≡ ones k old + count k (held_ids ns (draft_ids ds) levels.levels)
   pub held : (k : ℕ) → ones k old ≤ count k (values names.entries)
@@ -49,7 +49,7 @@ pub record Changed {K : Type 0} (p : Texts Element) (names : Table Sense) (draft
   pub few : acts ns ≤ length REQUESTS
   pub is : stored_of p ns ds levels beside limit ≡ v
 
-module _ {K : Type 0} (p : Texts Element) (names : Table Sense) (drafts : Items Draft) (levels : Levels K) (beside : Beside) (charge limit : ℕ) (ns : List (Named Sense)) (ds : List Draft) (old : Sense) (v : Stored K)
+module _ {K : Type 0} (p : Texts Element) (names : SymbolTable Sense) (drafts : Items Draft) (levels : Levels K) (beside : Beside) (charge limit : ℕ) (ns : List (Named Sense)) (ds : List Draft) (old : Sense) (v : Stored K)
     (h : IsStore p names drafts levels beside charge limit) (c : Changed p names drafts levels beside charge limit ns ds old v) where
   pub text_dropped : (id : ℕ) → old ≡ senses.Text id → Dropped p names drafts levels beside charge limit ns ds id v
   text_dropped id is =
@@ -100,7 +100,7 @@ module _ {K : Type 0} (p : Texts Element) (names : Table Sense) (drafts : Items 
 
 -- ---- the newest text being built gets a name
 
-module _ {K : Type 0} (p : Texts Element) (names : Table Sense) (drafts : Items Draft) (levels : Levels K) (beside : Beside) (charge limit : ℕ) (name : List ℕ) (d : Draft) (o : Option Sense) (v : Stored K)
+module _ {K : Type 0} (p : Texts Element) (names : SymbolTable Sense) (drafts : Items Draft) (levels : Levels K) (beside : Beside) (charge limit : ℕ) (name : List ℕ) (d : Draft) (o : Option Sense) (v : Stored K)
     (h : IsStore p names drafts levels beside charge limit) (view : stored_of p names.entries drafts.items levels beside limit ≡ v) (top : slice_get drafts.items 0 ≡ Some d) (was : o ≡ find name names.entries) where
   ds : List Draft
   ds = drop 1 drafts.items
@@ -144,7 +144,7 @@ taken_is p names drafts levels beside limit name v named view =
     (texts_named (without_name name) refl p names (without name names) levels.levels (λ k some. name_for-without name names named k))
     ∙ ap (removed name) view
 
-module _ {K : Type 0} (p : Texts Element) (names : Table Sense) (drafts : Items Draft) (levels : Levels K) (beside : Beside) (charge limit : ℕ) (name : List ℕ) (o : Option Sense) (v : Stored K)
+module _ {K : Type 0} (p : Texts Element) (names : SymbolTable Sense) (drafts : Items Draft) (levels : Levels K) (beside : Beside) (charge limit : ℕ) (name : List ℕ) (o : Option Sense) (v : Stored K)
     (h : IsStore p names drafts levels beside charge limit) (view : stored_of p names.entries drafts.items levels beside limit ≡ v) (was : o ≡ find name names.entries) where
   pub taken_none : o ≡ None → Moved p names drafts levels beside charge limit (without name names.entries) drafts.items (removed name v)
   taken_none none =
@@ -179,7 +179,7 @@ module _ {K : Type 0} (p : Texts Element) (names : Table Sense) (drafts : Items 
 
 -- ---- a name is changed
 
-module _ {K : Type 0} (p : Texts Element) (names : Table Sense) (drafts : Items Draft) (levels : Levels K) (beside : Beside) (charge limit : ℕ) (from to : List ℕ) (o q : Option Sense) (v : Stored K)
+module _ {K : Type 0} (p : Texts Element) (names : SymbolTable Sense) (drafts : Items Draft) (levels : Levels K) (beside : Beside) (charge limit : ℕ) (from to : List ℕ) (o q : Option Sense) (v : Stored K)
     (h : IsStore p names drafts levels beside charge limit) (view : stored_of p names.entries drafts.items levels beside limit ≡ v) (was : o ≡ find from names.entries) (m : Sense) (some : o ≡ Some m)
     (next : q ≡ find to (without from names.entries)) where
   changed_is : stored_of p (put to m (without from names.entries)) drafts.items levels beside limit ≡ moved (find from v.names) from to v

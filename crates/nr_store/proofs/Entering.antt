@@ -7,7 +7,7 @@ use Rattle.nr_pool.specs.Texts.{Texts, text, holders, IsOpen, with_holders}
 use Rattle.nr_pool.specs.Laws.{text-with_holders, holders-with_holders_other}
 use Rattle.nr_vectors.specs.Items.{Items}
 use Rattle.nr_symbol_tables.specs.Table.{find}
-use Rattle.nr_symbol_tables.specs.Rows.{Table}
+use Rattle.nr_symbol_tables.specs.Rows.{SymbolTable}
 use Rattle.nr_levels.specs.Levels.{Text, Levels, deeper}
 use Rattle.nr_store.specs.Store.{Read, Shared, level_charge, text_charge, Stored, charge_of, share, shared_by, reading}
 use Rattle.nr_store.specs.Holders.{Beside, draft_ids, stored_of, count, ids_of, values, held_ids, name_for, texts_in, IsStore}
@@ -35,7 +35,7 @@ pub record IsThere (p : Texts Element) (charge id : ℕ) : Type 0 where
   pub weighs : share (text p id) ≤ charge
   pub few : 16 * holders p id ≤ charge
 
-module _ {K : Type 0} (p : Texts Element) (names : Table Sense) (drafts : Items Draft) (levels : Levels K) (beside : Beside) (charge limit id : ℕ) (h : IsStore p names drafts levels beside charge limit) where
+module _ {K : Type 0} (p : Texts Element) (names : SymbolTable Sense) (drafts : Items Draft) (levels : Levels K) (beside : Beside) (charge limit id : ℕ) (h : IsStore p names drafts levels beside charge limit) where
   pub there : 0 < count id (held_ids names.entries (draft_ids drafts.items) levels.levels) → IsThere p charge id
   there some =
       let held = h.held.held id in

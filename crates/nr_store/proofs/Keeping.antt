@@ -6,7 +6,7 @@ use Rattle.std.proofs.lemmas.Bool.{cases_lt, cases_eq}
 use Rattle.std.specs.Prelude.{nat_lt, if◌then◌else◌}
 use Rattle.nr_pool.specs.Texts.{Held, Texts, text, holders, IsOpen, used}
 use Rattle.nr_symbol_tables.specs.Table.{Named}
-use Rattle.nr_symbol_tables.specs.Rows.{Table}
+use Rattle.nr_symbol_tables.specs.Rows.{SymbolTable}
 use Rattle.nr_levels.specs.Levels.{Source, Text, Own, Mark as Marked, Open, Levels, total}
 use Rattle.nr_store.specs.declared.named.Sense.{Sense}
 use Rattle.nr_store.specs.declared.named.Sense.TheVariants as senses
@@ -84,7 +84,7 @@ same_view p q names drafts levels beside limit h =
 
 -- ---- what the pool's texts take is within the charge
 
-module _ {K : Type 0} (p : Texts Element) (names : Table Sense) (drafts : Items Draft) (levels : Levels K) (beside : Beside) (charge limit : ℕ) (h : IsStore p names drafts levels beside charge limit) where
+module _ {K : Type 0} (p : Texts Element) (names : SymbolTable Sense) (drafts : Items Draft) (levels : Levels K) (beside : Beside) (charge limit : ℕ) (h : IsStore p names drafts levels beside charge limit) where
   pub costs_paid : costs p ≤ charge
   costs_paid =
       let most = costs-le p (values names.entries ++ draft_ids drafts.items) (ids_of levels.levels) (λ k. omega (
@@ -105,7 +105,7 @@ all_cost (t ∷ ts) h =
     omega arith
 
 -- where 16 more are within the limit, some number of the pool has no text
-pub room_for_a_text : {K : Type 0} (p : Texts Element) (names : Table Sense) (drafts : Items Draft) (levels : Levels K) (beside : Beside) (charge limit : ℕ) → IsStore p names drafts levels beside charge limit → charge + 16 ≤ limit
+pub room_for_a_text : {K : Type 0} (p : Texts Element) (names : SymbolTable Sense) (drafts : Items Draft) (levels : Levels K) (beside : Beside) (charge limit : ℕ) → IsStore p names drafts levels beside charge limit → charge + 16 ≤ limit
     → All (λ (t : Held Element). 0 < t.holders) p.texts → ⊥
 room_for_a_text p names drafts levels beside charge limit h room all =
     let most = all_cost p.texts all in
@@ -114,7 +114,7 @@ room_for_a_text p names drafts levels beside charge limit h room all =
     omega arith
 
 -- how many elements more there is room for
-pub room_for_elements : {K : Type 0} (p : Texts Element) (names : Table Sense) (drafts : Items Draft) (levels : Levels K) (beside : Beside) (charge limit n : ℕ) → IsStore p names drafts levels beside charge limit → charge + n ≤ limit → used p + n ≤ p.capacity
+pub room_for_elements : {K : Type 0} (p : Texts Element) (names : SymbolTable Sense) (drafts : Items Draft) (levels : Levels K) (beside : Beside) (charge limit n : ℕ) → IsStore p names drafts levels beside charge limit → charge + n ≤ limit → used p + n ≤ p.capacity
 room_for_elements p names drafts levels beside charge limit n h room =
     let most = used-le p in
     let paid = costs_paid p names drafts levels beside charge limit h in
@@ -142,7 +142,7 @@ charged_once p names drafts levels beside charge limit held alone pays named cha
     charged ∙ each_once p names drafts levels beside limit held alone named.single (levels_total p levels.levels pays)
 
 -- the levels' own charges are within what all is charged
-pub levels_within : {K : Type 0} (p : Texts Element) (names : Table Sense) (drafts : Items Draft) (levels : Levels K) (beside : Beside) (charge limit : ℕ) → IsStore p names drafts levels beside charge limit → total levels.levels ≤ charge
+pub levels_within : {K : Type 0} (p : Texts Element) (names : SymbolTable Sense) (drafts : Items Draft) (levels : Levels K) (beside : Beside) (charge limit : ℕ) → IsStore p names drafts levels beside charge limit → total levels.levels ≤ charge
 levels_within p names drafts levels beside charge limit h =
     let all = levels_total p levels.levels h.pays in
     let charged = h.charged in
@@ -194,7 +194,7 @@ levels_many {K = K} id (l ∷ ls) pays =
     let all = sum_by-cons (λ (k : Open K). k.charge) l ls in
     omega arith
 
-module _ {K : Type 0} (p : Texts Element) (names : Table Sense) (drafts : Items Draft) (levels : Levels K) (beside : Beside) (charge limit id : ℕ) (h : IsStore p names drafts levels beside charge limit) where
+module _ {K : Type 0} (p : Texts Element) (names : SymbolTable Sense) (drafts : Items Draft) (levels : Levels K) (beside : Beside) (charge limit id : ℕ) (h : IsStore p names drafts levels beside charge limit) where
   -- each holder of a text pays 16
   pub many_paid : 16 * holders p id ≤ charge
   many_paid =

@@ -8,7 +8,7 @@ use Rattle.nr_vectors.specs.declared.cell.Cell.{Cell}
 use Rattle.nr_pool.specs.Texts.{Texts, text, used, IsOpen, with_text}
 use Rattle.nr_pool.specs.Laws.{within_of_open, with_text-text, append_more, open-with_text, used-with_text}
 use Rattle.nr_pool.specs.declared.Full.{Full}
-use Rattle.nr_symbol_tables.specs.Rows.{Table}
+use Rattle.nr_symbol_tables.specs.Rows.{SymbolTable}
 use Rattle.nr_levels.specs.Levels.{Levels}
 use Rattle.nr_store.specs.declared.named.Sense.{Sense}
 use Rattle.nr_store.specs.declared.element.Element.{Element}
@@ -74,7 +74,7 @@ length-line_of indent cells height =
 
 -- ---- a line in the newest text being built
 
-module _ {K : Type 0} (p : Texts Element) (names : Table Sense) (drafts : Items Draft) (levels : Levels K) (beside : Beside) (charge limit : ℕ) (d : Draft) (ds : List Draft) (h : IsStore p names drafts levels beside charge limit) (first : drafts.items ≡ d ∷ ds)
+module _ {K : Type 0} (p : Texts Element) (names : SymbolTable Sense) (drafts : Items Draft) (levels : Levels K) (beside : Beside) (charge limit : ℕ) (d : Draft) (ds : List Draft) (h : IsStore p names drafts levels beside charge limit) (first : drafts.items ≡ d ∷ ds)
     (indent : ℕ) (cells : List Cell) (height : ℕ) where
   abbrev v : Stored K
   v = stored_of p names.entries drafts.items levels beside limit
@@ -93,7 +93,7 @@ module _ {K : Type 0} (p : Texts Element) (names : Table Sense) (drafts : Items 
 
 -- ---- a line whose cells were added one by one
 
-module _ {K : Type 0} (p : Texts Element) (names : Table Sense) (drafts : Items Draft) (levels : Levels K) (beside : Beside) (charge limit : ℕ) (d : Draft) (ds : List Draft) (h : IsStore p names drafts levels beside charge limit) (first : drafts.items ≡ d ∷ ds)
+module _ {K : Type 0} (p : Texts Element) (names : SymbolTable Sense) (drafts : Items Draft) (levels : Levels K) (beside : Beside) (charge limit : ℕ) (d : Draft) (ds : List Draft) (h : IsStore p names drafts levels beside charge limit) (first : drafts.items ≡ d ∷ ds)
     (cells height : ℕ) where
   abbrev before : Stored K
   before = stored_of p names.entries drafts.items levels beside limit

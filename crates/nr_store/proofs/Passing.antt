@@ -3,7 +3,7 @@ use Rattle.std.proofs.Common.{◌≡◌, ℕ, ◌-◌, ◌≤◌, Some, arith, r
 use Rattle.std.proofs.lemmas.Grind.{common_steps}
 use Rattle.nr_vectors.specs.Items.{Items}
 use Rattle.nr_pool.specs.Texts.{Texts}
-use Rattle.nr_symbol_tables.specs.Rows.{Table}
+use Rattle.nr_symbol_tables.specs.Rows.{SymbolTable}
 use Rattle.nr_levels.specs.Levels.{Levels, next_item_of, advanced, closed, resumed, charge_of_newest, HasMark}
 use Rattle.nr_levels.specs.declared.frame.NextItem.TheVariants as next_items
 use Rattle.nr_store.specs.declared.named.Sense.{Sense}
@@ -11,7 +11,7 @@ use Rattle.nr_store.specs.declared.element.Element.{Element}
 use Rattle.nr_store.specs.declared.element.Draft.{Draft}
 use Rattle.nr_store.specs.Holders.{Beside, IsStore}
 
-module _ {K : Type 0} (p : Texts Element) (names : Table Sense) (drafts : Items Draft) (levels : Levels K) (beside : Beside) (charge limit : ℕ) (h : IsStore p names drafts levels beside charge limit) where
+module _ {K : Type 0} (p : Texts Element) (names : SymbolTable Sense) (drafts : Items Draft) (levels : Levels K) (beside : Beside) (charge limit : ℕ) (h : IsStore p names drafts levels beside charge limit) where
   -- it goes on
   pub byte_passed : (b : ℕ) → next_item_of levels.levels ≡ Some (next_items.Byte b) → IsStore p names drafts (record levels { levels = advanced levels.levels }) beside charge limit
   byte_passed b is = search rules

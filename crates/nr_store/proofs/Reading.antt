@@ -9,7 +9,7 @@ use Rattle.std.proofs.lemmas.Option.{slice_get_within, get_or_from_slice_get}
 use Rattle.nr_vectors.specs.Items.{Items}
 use Rattle.nr_pool.specs.Texts.{Texts, text, holders, IsOpen, released}
 use Rattle.nr_symbol_tables.specs.Table.{Named}
-use Rattle.nr_symbol_tables.specs.Rows.{Table}
+use Rattle.nr_symbol_tables.specs.Rows.{SymbolTable}
 use Rattle.nr_levels.specs.Levels.{Source, Text, Own, Mark as Marked, Open, Levels, next_item, next_item_of, afterwards, advanced, marks, closed, charge_of_newest}
 use Rattle.nr_levels.specs.declared.frame.NextItem.TheVariants as next_items
 use Rattle.nr_store.specs.declared.named.Sense.{Sense}
@@ -132,7 +132,7 @@ marks_charge : {K : Type 0} (o : Option K) (ls : List (Level K)) → sum_by leve
 marks_charge None ls = refl
 marks_charge (Some mode) ls = sum_by-cons level_charge (Mark mode) ls ∙ omega arith
 
-module _ {K : Type 0} (p q : Texts Element) (names : Table Sense) (drafts : Items Draft) (levels : Levels K) (beside : Beside) (charge limit : ℕ) (s : Source K) (n : Newest levels.levels s)
+module _ {K : Type 0} (p q : Texts Element) (names : SymbolTable Sense) (drafts : Items Draft) (levels : Levels K) (beside : Beside) (charge limit : ℕ) (s : Source K) (n : Newest levels.levels s)
     (h : IsStore p names drafts levels beside charge limit) (held : IsHeld q (held_ids names.entries (draft_ids drafts.items) (drop 1 levels.levels)))
     (keeps : Keeps p q (held_ids names.entries (draft_ids drafts.items) (drop 1 levels.levels)))
     (alone : (k : ℕ) → 0 < count k (draft_ids drafts.items) → holders q k ≡ 1)
@@ -213,7 +213,7 @@ module _ {K : Type 0} (p q : Texts Element) (names : Table Sense) (drafts : Item
 
 -- ---- the end of a level that reads a text
 
-module _ {K : Type 0} (p : Texts Element) (names : Table Sense) (drafts : Items Draft) (levels : Levels K) (beside : Beside) (charge limit id place : ℕ) (h : IsStore p names drafts levels beside charge limit) (n : Newest levels.levels (Text id place)) where
+module _ {K : Type 0} (p : Texts Element) (names : SymbolTable Sense) (drafts : Items Draft) (levels : Levels K) (beside : Beside) (charge limit id place : ℕ) (h : IsStore p names drafts levels beside charge limit) (n : Newest levels.levels (Text id place)) where
   adds : AddsOne id (held_ids names.entries (draft_ids drafts.items) (drop 1 levels.levels)) (held_ids names.entries (draft_ids drafts.items) levels.levels)
   adds = subst (λ ls. AddsOne id (held_ids names.entries (draft_ids drafts.items) (drop 1 levels.levels)) (held_ids names.entries (draft_ids drafts.items) ls)) (sym n.first)
       (adds_level id names.entries (draft_ids drafts.items) n.level (drop 1 levels.levels) (ap ids_of_source n.reads))

@@ -5,7 +5,7 @@ use Rattle.std.proofs.lemmas.List.Sums.{sum_by-cons}
 use Rattle.nr_vectors.specs.Items.{Items}
 use Rattle.nr_pool.specs.Texts.{Texts, text}
 use Rattle.nr_symbol_tables.specs.Table.{Named}
-use Rattle.nr_symbol_tables.specs.Rows.{Table}
+use Rattle.nr_symbol_tables.specs.Rows.{SymbolTable}
 use Rattle.nr_levels.specs.Levels.{Source, Text, Own, Mark as Marked, Open, Levels}
 use Rattle.nr_levels.specs.Further.{further, further_on, Reaches, NewestReaches}
 use Rattle.nr_store.specs.declared.named.Sense.{Sense}
@@ -69,7 +69,7 @@ on_ids : {K : Type 0} (n : ℕ) (ls : List (Open K)) → ids_of (further_on n ls
 on_ids n [] = refl
 on_ids n (l ∷ ls) = ap (λ ks. ks ++ ids_of ls) (further_ids n l.source)
 
-pub run_is : {K : Type 0} (p : Texts Element) (names : Table Sense) (drafts : Items Draft) (levels : Levels K) (beside : Beside) (limit n : ℕ)
+pub run_is : {K : Type 0} (p : Texts Element) (names : SymbolTable Sense) (drafts : Items Draft) (levels : Levels K) (beside : Beside) (limit n : ℕ)
     → stored_of p names.entries drafts.items (record levels { levels = further_on n levels.levels }) beside limit ≡ run_left n (stored_of p names.entries drafts.items levels beside limit)
 run_is p names drafts levels beside limit n =
     ap₂ (λ ks ts. record (stored_of p names.entries drafts.items levels beside limit) { levels = ks; texts = ts }) (newest_after p n levels.levels) (on_texts p names.entries n levels.levels)
@@ -88,7 +88,7 @@ on_length : {K : Type 0} (n : ℕ) (ls : List (Open K)) → length (further_on n
 on_length n [] = refl
 on_length n (l ∷ ls) = refl
 
-module _ {K : Type 0} (p : Texts Element) (names : Table Sense) (drafts : Items Draft) (levels : Levels K) (beside : Beside) (charge limit n : ℕ) (h : IsStore p names drafts levels beside charge limit) where
+module _ {K : Type 0} (p : Texts Element) (names : SymbolTable Sense) (drafts : Items Draft) (levels : Levels K) (beside : Beside) (charge limit n : ℕ) (h : IsStore p names drafts levels beside charge limit) where
   pub run_reaches : n ≤ length (rest_of (map (level_of p) levels.levels)) → NewestReaches n levels.levels
   run_reaches within =
       levels_reach p n levels.levels (λ k. text_small p names drafts levels beside charge limit k h) within

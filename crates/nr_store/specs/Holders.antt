@@ -4,7 +4,7 @@ use Rattle.std.specs.List.{range_with_len}
 use Rattle.nr_vectors.specs.Items.{Items}
 use Rattle.nr_pool.specs.Texts.{Texts, text, holders}
 use Rattle.nr_symbol_tables.specs.Table.{Named, find}
-use Rattle.nr_symbol_tables.specs.Rows.{Table}
+use Rattle.nr_symbol_tables.specs.Rows.{SymbolTable}
 use Rattle.nr_levels.specs.Gathering.{Gathering}
 use Rattle.nr_symbol_tables.specs.Given.{word_in}
 use Rattle.nr_symbol_tables.specs.declared.word.HyphenationWord.{HyphenationWord}
@@ -25,12 +25,12 @@ use Rattle.nr_store.specs.Store.{Means, Act, Words, Built, Level, Read, Mark, Sh
 -- what is stored beside texts and levels
 pub record Beside : Type 0 where
   pub gathering : Gathering
-  pub registers : Table Register
+  pub registers : SymbolTable Register
   pub traps : Items Trap
   pub words : Items HyphenationWord
 
 -- these
-abbrev pub beside_of : Gathering → Table Register → Items Trap → Items HyphenationWord → Beside
+abbrev pub beside_of : Gathering → SymbolTable Register → Items Trap → Items HyphenationWord → Beside
 beside_of gathering registers traps words =
     record { gathering = gathering; registers = registers; traps = traps; words = words }
 
@@ -191,7 +191,7 @@ abbrev pub acts : List (Named Sense) → ℕ
 acts names = sum_by (λ (n : Named Sense). act n.value) names
 
 -- what is always true of the texts, the names and the levels
-pub record IsStore {K : Type 0} (p : Texts Element) (names : Table Sense) (drafts : Items Draft)
+pub record IsStore {K : Type 0} (p : Texts Element) (names : SymbolTable Sense) (drafts : Items Draft)
     (levels : Levels K) (beside : Beside) (charge limit : ℕ) : Type 0 where
   pub held : IsHeld p (held_ids names.entries (draft_ids drafts.items) levels.levels)
   -- a text that is being built has no other holder

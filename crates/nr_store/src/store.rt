@@ -19,7 +19,7 @@ use crate::named::Sense;
 use crate::register::Register;
 use nr_levels::{Gathering, Levels, Stack};
 use nr_pool::Pool;
-use nr_symbol_tables::{HyphenationWords, Table, Traps};
+use nr_symbol_tables::{HyphenationWords, SymbolTable, Traps};
 use std::marker::Model;
 
 /// Names with their requests and texts, texts being built, and levels that read texts, with modes `K` that sprung texts
@@ -35,11 +35,11 @@ use std::marker::Model;
 #[derive(Drop)]
 pub struct Store<K: Copy> {
     pool: Pool<Element>,
-    names: Table<Sense>,
+    names: SymbolTable<Sense>,
     drafts: Stack<Draft>,
     levels: Levels<K>,
     gathering: Gathering,
-    registers: Table<Register>,
+    registers: SymbolTable<Register>,
     traps: Traps,
     words: HyphenationWords,
     charge: u32,

@@ -6,7 +6,7 @@ use Rattle.nr_symbol_tables.specs.Table.{Named, find, put}
 use Rattle.nr_symbol_tables.specs.declared.table.Entry.{Entry}
 
 -- what a table holds, and how many names it has room for
-pub record Table (V : Type 0) : Type 0 where
+pub record SymbolTable (V : Type 0) : Type 0 where
   pub entries : List (Named V)
   pub capacity : ℕ
 

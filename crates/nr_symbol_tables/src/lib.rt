@@ -10,7 +10,7 @@ pub mod traps;
 pub mod word;
 
 pub use hyphenation::HyphenationWords;
-pub use table::{Entry, Table};
+pub use table::{Entry, SymbolTable};
 pub use trap::Trap;
 pub use traps::Traps;
 pub use word::HyphenationWord;

@@ -141,17 +141,17 @@ fn lead<V: Copy>(
 ///
 /// Clauses see the list of names with their values, in the order of the names, and the capacity, the greatest number of names.
 #[derive(Drop)]
-pub struct Table<V: Copy> {
+pub struct SymbolTable<V: Copy> {
     entries: FixedVec<Entry<V>>,
     // The latest entry of each kind: its place counted from 1, or 0.
     latest: ReservedArray<KINDS>,
 }
 
-impl<V: Copy> Model for Table<V> {
+impl<V: Copy> Model for SymbolTable<V> {
     ghost use Rattle.std.specs.Prelude.{map};
-    ghost use Rattle.nr_symbol_tables.specs.Rows.{Table, IsLinked, named, in_order};
+    ghost use Rattle.nr_symbol_tables.specs.Rows.{SymbolTable, IsLinked, named, in_order};
 
-    ghost Value = { Table V };
+    ghost Value = { SymbolTable V };
 
     ghost view = { λ t. record {
       entries = in_order (map named t.entries.items);
@@ -161,13 +161,13 @@ impl<V: Copy> Model for Table<V> {
     ghost invariant = { λ t. IsLinked t.entries.items t.latest };
 }
 
-impl<V: Copy> Table<V> {
+impl<V: Copy> SymbolTable<V> {
     /// No names, and room for so many: `AllocError` where there is no memory for them. No other call allocates.
-    pub fn new(alloc: &mut CountedAlloc, capacity: usize) -> Result<Table<V>, AllocError>
+    pub fn new(alloc: &mut CountedAlloc, capacity: usize) -> Result<SymbolTable<V>, AllocError>
         ensures made { IfOk result (λ made. made ≡ record { entries = []; capacity = capacity }) }
         ensures taken { IfOk result (λ made. alloc.new ≡ alloc.old + capacity + 512) }
     {
-        Ok(Table {
+        Ok(SymbolTable {
             entries: FixedVec::new(alloc, capacity)?,
             latest: ReservedArray::new(alloc, [0; KINDS])?,
         })
@@ -204,7 +204,7 @@ impl<V: Copy> Table<V> {
 
     /// What has this name.
     ///
-    /// Proved: What has a name is found, put and taken away as in a list of named values. (`Table::{get, put,
+    /// Proved: What has a name is found, put and taken away as in a list of named values. (`SymbolTable::{get, put,
     /// remove}`)
     #[inline(always)]
     pub fn get(&self, name: Name) -> Option<V>

@@ -2,7 +2,7 @@
 use Rattle.std.proofs.Common.{◌≡◌, ℕ, List, [], ◌++◌, append-nil, Bool, true, Option, None, Some, Result, Ok, Err, ◌⊎◌, inl, inr, refl, ap, sym, subst, ◌∙◌}
 use Rattle.nr_units.specs.Source.{Supply}
 use Rattle.nr_units.specs.declared.source.Fault.{Fault}
-use Rattle.utf8_characters.specs.declared.table.Table.{Table}
+use Rattle.utf8_characters.specs.declared.table.FixedTable.{FixedTable}
 use Rattle.preconv_converter.specs.declared.target.Target.{Target}
 use Rattle.utf8_converter.specs.Cells.{converted}
 use Rattle.utf8_converter.specs.Lines.{KeepsLines}
@@ -59,20 +59,20 @@ plain_out WriteFault bytes = ([], sym (append-nil bytes))
 
 -- ---- in UTF-8
 
-abbrev making : Table → Bool → Option (List ℕ) → ℕ → Making
+abbrev making : FixedTable → Bool → Option (List ℕ) → ℕ → Making
 making t e begun failed = record { table = t; escapes = e; begun = begun; failed = failed }
 
 -- all of it, or a prefix of it
-all_of : (t : Table) (e : Bool) (failed failed' : ℕ) (pages bytes : List ℕ) (n : ℕ)
+all_of : (t : FixedTable) (e : Bool) (failed failed' : ℕ) (pages bytes : List ℕ) (n : ℕ)
     → Finishes {E = Fault} (making t e (Some []) failed) pages (Some bytes) failed' (Ok n) → IsOut Done (Characters t e) pages bytes n
 all_of t e failed failed' pages bytes n f = (f.went_out, subst (λ (z : List ℕ). KeepsLines t e pages z) (sym f.went_out) f.text, f.made)
 
-prefix_of : (t : Table) (e : Bool) (failed failed' : ℕ) (pages bytes : List ℕ) (x : Fault)
+prefix_of : (t : FixedTable) (e : Bool) (failed failed' : ℕ) (pages bytes : List ℕ) (x : Fault)
     → Finishes (making t e (Some []) failed) pages (Some bytes) failed' (Err x) → IsPrefix bytes (converted t e pages)
 prefix_of t e failed failed' pages bytes x f =
     (f.went_out.1, f.went_out.2 ∙ ap (λ (z : List ℕ). z ++ f.went_out.1) (sym f.went_out.3))
 
-shown_at : (t : Table) (e : Bool) (failed failed' : ℕ) (o : PageEnd) (pages bytes : List ℕ) (r : Result ℕ Fault)
+shown_at : (t : FixedTable) (e : Bool) (failed failed' : ℕ) (o : PageEnd) (pages bytes : List ℕ) (r : Result ℕ Fault)
     → (IsKnown o → Finishes (making t e (Some []) failed) pages (Some bytes) failed' r)
     → IsOut (outcome_of o r) (Characters t e) pages bytes (dropped_of r)
 shown_at t e failed failed' Done pages bytes (Ok n) f = all_of t e failed failed' pages bytes n (f tt)
@@ -89,7 +89,7 @@ shown_at t e failed failed' ReadFault pages bytes (Err x) f = tt
 shown_at t e failed failed' TooLong pages bytes (Err x) f = tt
 shown_at t e failed failed' WriteFault pages bytes (Err x) f = prefix_of t e failed failed' pages bytes x (f tt)
 
-pub shown_out : (t : Table) (e : Bool) (begun new : Option (List ℕ)) (failed failed' : ℕ) (o : PageEnd) (pages bytes : List ℕ) (r : Result ℕ Fault)
+pub shown_out : (t : FixedTable) (e : Bool) (begun new : Option (List ℕ)) (failed failed' : ℕ) (o : PageEnd) (pages bytes : List ℕ) (r : Result ℕ Fault)
     → begun ≡ Some [] → new ≡ Some bytes
     → (IsKnown o → Finishes (making t e begun failed) pages new failed' r)
     → IsOut (outcome_of o r) (Characters t e) pages bytes (dropped_of r)
@@ -128,7 +128,7 @@ plain_printed s form page bytes old new n m d o p is prints before after moves o
     (plain_out o bytes) moves outcome dropped)
 
 -- where they went out through a sink that shows them, which held these bytes first and those last
-pub shown_printed : (s : Setting) (page : List ℕ) (t : Table) (e : Bool) (begun new : Option (List ℕ)) (failed failed' : ℕ) (first last bytes : List ℕ)
+pub shown_printed : (s : Setting) (page : List ℕ) (t : FixedTable) (e : Bool) (begun new : Option (List ℕ)) (failed failed' : ℕ) (first last bytes : List ℕ)
     (n m d : ℕ) (o p : PageEnd) (r : Result ℕ Fault)
     → first ≡ made_of (making t e begun failed) → Prints s (source_of s (whole page)) n o (Some first) (Some last)
     → ((k : Making) (xs : List ℕ) → last ≡ made_of k ++ xs → Finishes k xs new failed' r)

@@ -1,7 +1,7 @@
 -- What a page with a table of its own came to, said of what its caller knows.
 use Rattle.std.proofs.Common.{◌≡◌, ℕ, ◌<◌, List, [], length, Bool, true, false, ◌&&◌, Option, None, Some, refl, ap, sym, subst, ◌∙◌}
 use Rattle.nr_units.specs.Source.{Supply}
-use Rattle.utf8_characters.specs.declared.table.Table as fixed
+use Rattle.utf8_characters.specs.declared.table.FixedTable as fixed
 use Rattle.utf8_own_characters.specs.declared.counting.Count.{Count}
 use Rattle.utf8_own_characters.specs.Ranking.{ranked}
 use Rattle.utf8_own_characters.specs.Table.{Characters}
@@ -118,21 +118,21 @@ pub not-asked : (setup : DocumentSetup) (text : List ℕ) (asks : Bool) → asks
 not-asked setup text asks is none =
     ap (λ (z : Bool). z && lacks (table_for setup.options.table text) (counts_for setup text)) (sym is ∙ none)
 
-asked-lacks : (setup : DocumentSetup) (text : List ℕ) (characters : Option fixed.Table) (xs : List Count) (asks lacking r : Bool)
+asked-lacks : (setup : DocumentSetup) (text : List ℕ) (characters : Option fixed.FixedTable) (xs : List Count) (asks lacking r : Bool)
     → asks ≡ asks_for_own setup text → asks ≡ true → lacking ≡ lacks characters xs → lacking ≡ r
     → characters ≡ table_for setup.options.table text → xs ≡ counts_for setup text → takes_own setup text ≡ r
 asked-lacks setup text characters xs asks lacking r is all reported same fixed-is counts =
     ap (λ (z : Bool). z && lacks (table_for setup.options.table text) (counts_for setup text)) (sym is ∙ all)
-    ∙ ap (λ (z : Option fixed.Table). lacks z (counts_for setup text)) (sym fixed-is)
+    ∙ ap (λ (z : Option fixed.FixedTable). lacks z (counts_for setup text)) (sym fixed-is)
     ∙ ap (λ (z : List Count). lacks characters z) (sym counts) ∙ sym reported ∙ same
 
-pub lacks-none : (setup : DocumentSetup) (text : List ℕ) (characters : Option fixed.Table) (xs : List Count) (asks lacking : Bool)
+pub lacks-none : (setup : DocumentSetup) (text : List ℕ) (characters : Option fixed.FixedTable) (xs : List Count) (asks lacking : Bool)
     → asks ≡ asks_for_own setup text → asks ≡ true → lacking ≡ lacks characters xs → lacking ≡ false
     → characters ≡ table_for setup.options.table text → xs ≡ counts_for setup text → HasOwn setup text None
 lacks-none setup text characters xs asks lacking is all reported same fixed-is counts =
     asked-lacks setup text characters xs asks lacking false is all reported same fixed-is counts
 
-pub lacks-some : (setup : DocumentSetup) (text : List ℕ) (characters : Option fixed.Table) (xs ys : List Count) (asks lacking : Bool)
+pub lacks-some : (setup : DocumentSetup) (text : List ℕ) (characters : Option fixed.FixedTable) (xs ys : List Count) (asks lacking : Bool)
     → asks ≡ asks_for_own setup text → asks ≡ true → lacking ≡ lacks characters xs → lacking ≡ true
     → characters ≡ table_for setup.options.table text → xs ≡ counts_for setup text → ys ≡ ranked xs → HasOwn setup text (Some ys)
 lacks-some setup text characters xs ys asks lacking is all reported same fixed-is counts order =
@@ -165,7 +165,7 @@ made-as xs ys t made is = subst (λ (z : List Count). IsMadeOf z t) is made
 -- ---- what the call comes to
 
 -- where its texts are the page's under its coding
-pub has-own : (setup : DocumentSetup) (page first second : List ℕ) (characters : Option fixed.Table) (own own' : Option (List Count))
+pub has-own : (setup : DocumentSetup) (page first second : List ℕ) (characters : Option fixed.FixedTable) (own own' : Option (List Count))
     → first ≡ page → second ≡ page → characters ≡ table_for setup.options.table first
     → (IsShortIf (asks_for_own setup second) setup second → characters ≡ table_for setup.options.table second → HasOwn setup second own)
     → own ≡ own' → IsShortIf (asks_for_own setup page) setup page → HasOwn setup page own'

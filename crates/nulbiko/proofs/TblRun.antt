@@ -3,7 +3,7 @@ use Rattle.std.proofs.Common.{◌≡◌, ℕ, List, Bool, true, false, Option, r
 use Rattle.nr_units.specs.Failures.{next_count}
 use Rattle.nr_units.specs.Source.{Supply}
 use Rattle.nr_vectors.specs.Items.{Items}
-use Rattle.utf8_characters.specs.declared.table.Table.{Table}
+use Rattle.utf8_characters.specs.declared.table.FixedTable.{FixedTable}
 use Rattle.tbl_table.specs.declared.signs.Signs.{Signs}
 use Rattle.tbl_setting.specs.Bounds.{Bounds}
 use Rattle.tbl_setting.specs.Drawing.{signs_of}
@@ -15,7 +15,7 @@ use Rattle.tbl_reader.specs.declared.running.ReadEnd.TheVariants.{Done, ReadFaul
 use Rattle.nulbiko.specs.Tbl.{bounds}
 
 -- bounds are those of a line, part by part
-pub bounds_made : (b : Bounds) (table : Option Table) (line : ℕ) → b.signs ≡ signs_of table → b.limits.formats ≡ 262144
+pub bounds_made : (b : Bounds) (table : Option FixedTable) (line : ℕ) → b.signs ≡ signs_of table → b.limits.formats ≡ 262144
     → b.limits.row ≡ 16384 → b.cells ≡ line → b.fits ≡ true → b ≡ bounds table line
 bounds_made b table line signs formats row cells fits =
     let made : Signs → ℕ → ℕ → ℕ → Bool → Bounds = λ g f r n w. record { signs = g; limits = record { formats = f; row = r }; cells = n; fits = w } in

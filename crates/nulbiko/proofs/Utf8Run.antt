@@ -3,7 +3,7 @@ use Rattle.std.proofs.Common.{◌≡◌, ℕ, List, take, Bool, false, Option, S
 use Rattle.nr_units.specs.Failures.{next_count}
 use Rattle.nr_units.specs.Source.{Supply}
 use Rattle.nr_units.specs.declared.source.Fault.{Fault}
-use Rattle.utf8_characters.specs.declared.table.Table.{Table}
+use Rattle.utf8_characters.specs.declared.table.FixedTable.{FixedTable}
 use Rattle.utf8_converter.specs.Choosing.{Chooses, IsBest, looked_at}
 use Rattle.document_stages.specs.Running.{TellsReads, is_read_fault}
 use Rattle.utf8_converter.specs.Running.{Ran}
@@ -14,7 +14,7 @@ use Rattle.nulbiko.specs.Reported.{whole_text}
 use Rattle.nulbiko.specs.Utf8.{ChoosesNumber}
 
 -- of the same bytes before and after
-pub carried : (t : Table) (e : Bool) (q q' left : Option Supply) (old old' new new' : Option (List ℕ)) (strays : ℕ) (o : RunEnd)
+pub carried : (t : FixedTable) (e : Bool) (q q' left : Option Supply) (old old' new new' : Option (List ℕ)) (strays : ℕ) (o : RunEnd)
     → Ran t e q left old new strays o → q ≡ q' → old ≡ old' → new ≡ new' → Ran t e q' left old' new' strays o
 carried t e q q' left old old' new new' strays o ran same before after =
     subst (λ z. Ran t e q' left old' z strays o) after
@@ -35,9 +35,9 @@ unfolding next_count
 never e = omega (arith, e)
 
 -- the number of the table that was chosen
-pub numbered : (q : Option Supply) (text : List ℕ) (t : Table) (n : ℕ) → Chooses {E = Fault} q (Ok t) → q ≡ Some (whole_text text) → n ≡ number_of t → ChoosesNumber text n
+pub numbered : (q : Option Supply) (text : List ℕ) (t : FixedTable) (n : ℕ) → Chooses {E = Fault} q (Ok t) → q ≡ Some (whole_text text) → n ≡ number_of t → ChoosesNumber text n
 numbered q text t n h same is =
     let P : Option Supply → Type 0 = λ x. Chooses {E = Fault} x (Ok t) in
     let g = subst P same h in
-    let Q : Table → Type 0 = λ x. IsBest (take looked_at text) x in
+    let Q : FixedTable → Type 0 = λ x. IsBest (take looked_at text) x in
     record { is = is ∙ ap number_of g.0; best = subst Q g.0 g.1 }

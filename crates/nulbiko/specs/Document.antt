@@ -6,7 +6,7 @@ use Rattle.tbl_table.specs.declared.signs.Signs.{Signs}
 use Rattle.tbl_setting.specs.Drawing.{signs_of}
 use Rattle.tbl_stage.specs.Memory.{limits_of}
 use Rattle.tbl_stage.specs.Text.{Bounds}
-use Rattle.utf8_characters.specs.declared.table.Table.{Table}
+use Rattle.utf8_characters.specs.declared.table.FixedTable.{FixedTable}
 use Rattle.preconv_converter.specs.Targets.{target_of}
 use Rattle.utf8_converter.specs.Choosing.{chosen, looked_at}
 use Rattle.nr_options.specs.Limits.{AreLimits}
@@ -35,7 +35,7 @@ IsAllowed setup = AreLimits (bounds_of setup.limits) × (are_numbers setup.optio
 -- ---- how a page is set
 
 -- 6 is the number of the table that the page takes
-abbrev pub table_for : ℕ → List ℕ → Option Table
+abbrev pub table_for : ℕ → List ℕ → Option FixedTable
 table_for number page = if number == 6 then Some (chosen (take looked_at page)) else table_numbered number
 
 -- the width of a line, and of a long page that it is one: `-rL` and `-rC1`

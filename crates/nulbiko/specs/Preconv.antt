@@ -1,7 +1,7 @@
 -- What a call of preconv comes to.
 use Rattle.std.specs.Prelude.{◌≡◌, ℕ, List, [], length, false, Option, Some}
 use Rattle.nr_units.specs.Source.{Supply}
-use Rattle.utf8_characters.specs.declared.table.Table.{Table}
+use Rattle.utf8_characters.specs.declared.table.FixedTable.{FixedTable}
 use Rattle.preconv_coding.specs.UnderCoding.{text_supply}
 use Rattle.document_stages.specs.Running.{is_read_fault}
 use Rattle.preconv_converter.specs.Running.{Ran}
@@ -21,7 +21,7 @@ code_of (ReadFault at) = 9
 
 -- The text, read under its coding, was turned into the language, with bytes for characters of the table if there is one, and what
 -- came out was handed over.
-pub record TurnsText (table : Option Table) (text output : List ℕ) (report : Report) (code : ℕ) : Type 0 where
+pub record TurnsText (table : Option FixedTable) (text output : List ℕ) (report : Report) (code : ℕ) : Type 0 where
   pub outcome : RunEnd
   pub left : Option Supply
   pub bytes : List ℕ

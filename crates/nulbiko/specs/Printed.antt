@@ -1,6 +1,6 @@
 -- What becomes of the pages of a document.
 use Rattle.std.specs.Prelude.{◌≡◌, ℕ, ◌-◌, List, [], ◌++◌, Bool, ◌==◌, if◌then◌else◌, Option, None, Some, Result, Ok, Err, ◌⊎◌}
-use Rattle.utf8_characters.specs.declared.table.Table.{Table}
+use Rattle.utf8_characters.specs.declared.table.FixedTable.{FixedTable}
 use Rattle.utf8_converter.specs.Cells.{converted, strays_of}
 use Rattle.utf8_converter.specs.Lines.{KeepsLines}
 use Rattle.document_stages.specs.Running.{at_most}
@@ -14,15 +14,15 @@ use Rattle.nulbiko.specs.declared.printed.Form.TheVariants.{Bytes, Characters}
 
 -- ---- the form
 
-abbrev pub characters : Table → Bool → Form
+abbrev pub characters : FixedTable → Bool → Form
 characters table escapes = Characters table escapes
 
-abbrev pub with_table : ℕ → Option Table → Form
+abbrev pub with_table : ℕ → Option FixedTable → Form
 with_table number None = Bytes
 with_table number (Some table) = Characters table (number == 2)
 
 -- 0 is that of bytes
-abbrev pub form_of : ℕ → Option Table → Form
+abbrev pub form_of : ℕ → Option FixedTable → Form
 form_of number table = if number == 0 then Bytes else with_table number table
 
 -- ---- what goes out of pages

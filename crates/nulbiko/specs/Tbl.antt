@@ -2,7 +2,7 @@
 use Rattle.std.specs.Prelude.{◌≡◌, ℕ, List, [], ◌∷◌, length, Bool, true, false, Option, Some}
 use Rattle.nr_vectors.specs.Items.{Items}
 use Rattle.nr_units.specs.Source.{Supply}
-use Rattle.utf8_characters.specs.declared.table.Table.{Table}
+use Rattle.utf8_characters.specs.declared.table.FixedTable.{FixedTable}
 use Rattle.tbl_setting.specs.Drawing.{signs_of}
 use Rattle.tbl_setting.specs.Bounds.{Bounds}
 use Rattle.tbl_setting.specs.Running.{Ran, is_read_fault}
@@ -52,11 +52,11 @@ abbrev pub limits : Limits
 limits = record { formats = 262144; row = 16384 }
 
 -- tables of manual pages are narrowed
-abbrev pub bounds : Option Table → ℕ → Bounds
+abbrev pub bounds : Option FixedTable → ℕ → Bounds
 bounds table line = record { signs = signs_of table; limits = limits; cells = line; fits = true }
 
 -- The tables of the text were set for a line of so many cells, with boxes of the characters of the table if there is one, what came out was handed over, and what was wrong first is reported.
-pub record SetsTables (table : Option Table) (line : ℕ) (text output : List ℕ) (report : Report) (code : ℕ) : Type 0 where
+pub record SetsTables (table : Option FixedTable) (line : ℕ) (text output : List ℕ) (report : Report) (code : ℕ) : Type 0 where
   pub outcome : ReadEnd
   pub left : Option Supply
   pub bytes : List ℕ

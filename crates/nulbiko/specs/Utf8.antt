@@ -1,7 +1,7 @@
 -- What a call of utf8 comes to.
 use Rattle.std.specs.Prelude.{◌≡◌, ℕ, List, [], length, take, Bool, false, Option, Some}
 use Rattle.nr_units.specs.Source.{Supply}
-use Rattle.utf8_characters.specs.declared.table.Table.{Table}
+use Rattle.utf8_characters.specs.declared.table.FixedTable.{FixedTable}
 use Rattle.utf8_converter.specs.Choosing.{IsBest, chosen, looked_at}
 use Rattle.document_stages.specs.Running.{is_read_fault}
 use Rattle.utf8_converter.specs.Running.{Ran}
@@ -20,7 +20,7 @@ code_of TooLong = 6
 code_of (ReadFault at) = 9
 
 -- The bytes became characters of the table, and what came out was handed over; how many were dropped is reported.
-pub record TurnsBytes (table : Table) (escapes : Bool) (text output : List ℕ) (report : Report)
+pub record TurnsBytes (table : FixedTable) (escapes : Bool) (text output : List ℕ) (report : Report)
     (code : ℕ) : Type 0 where
   pub outcome : RunEnd
   pub left : Option Supply

@@ -27,7 +27,7 @@ use nr_options::MOST_REGISTERS;
 use nr_units::sink::Sink;
 use preconv_converter::Target;
 use std::alloc::{AllocError, Global};
-use utf8_characters::Table;
+use utf8_characters::FixedTable;
 use utf8_own_page::may_need_own;
 
 /// The number of the table that the page takes.
@@ -105,7 +105,7 @@ fn limits_of(setup: &DocumentSetup) -> Option<Limits>
 }
 
 /// The table of a number, for a page.
-fn table_for(alloc: Global, number: u32, page: &[u8]) -> Result<Option<Table>, AllocError>
+fn table_for(alloc: Global, number: u32, page: &[u8]) -> Result<Option<FixedTable>, AllocError>
     ensures { IfOk result (λ table. table ≡ specs.table_for number page.now) }
 {
     if number == CHOSEN {
@@ -173,7 +173,7 @@ pub(crate) fn table_limits(asked: TableLimits, sets: bool) -> PageLimits
 struct Prepared {
     /// Its tables are set.
     sets: bool,
-    characters: Option<Table>,
+    characters: Option<FixedTable>,
     pages: Pages,
     memory: Memory,
 }
@@ -184,7 +184,7 @@ fn prepare(
     limits: Limits,
     setup: &DocumentSetup,
     page: &[u8],
-    characters: Option<Table>,
+    characters: Option<FixedTable>,
     room: usize,
 ) -> Result<Prepared, AllocError>
     ensures sets { IfOk result (λ made. made.sets ≡ sets_of setup.now page.now) }

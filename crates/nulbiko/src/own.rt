@@ -27,7 +27,7 @@ use nr_engine::{CountedAlloc, Desk, Limits};
 use nr_units::sink::Sink;
 use preconv_converter::Target;
 use std::alloc::{AllocError, Global};
-use utf8_characters::Table as Fixed;
+use utf8_characters::FixedTable as Fixed;
 use utf8_own_characters::Count;
 use utf8_own_page::{Cells, counted, lacks, prefix_of, signs_of};
 

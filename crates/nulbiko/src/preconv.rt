@@ -14,7 +14,7 @@ use nr_vectors::CountedAlloc;
 use preconv_coding::UnderCoding;
 use preconv_converter::{RunEnd, Target, convert};
 use std::alloc::{AllocError, Global};
-use utf8_characters::Table;
+use utf8_characters::FixedTable;
 
 /// The bytes of what is to go out.
 const PENDING_SIZE: usize = 65_536;
@@ -36,7 +36,7 @@ fn code(outcome: RunEnd) -> u32
 /// Turns the text, hands over what comes out and gives the number of the outcome.
 fn turn_text(
     alloc: Global,
-    table: Option<Table>,
+    table: Option<FixedTable>,
     input: &[u8],
     output: &mut [u8],
     reported: &mut Report,

@@ -25,9 +25,9 @@ use nr_units::sink::Sink;
 use nr_units::source::Fault;
 use preconv_converter::Target;
 use tbl_setting::Complaint;
-use utf8_characters::Table;
+use utf8_characters::FixedTable;
 use utf8_converter::Shown;
-use utf8_own_characters::Table as OwnTable;
+use utf8_own_characters::OwnTable;
 
 /// The bytes of characters that go out at once.
 const ROOM: usize = 2_048;
@@ -41,11 +41,11 @@ pub(crate) enum Form {
     /// As the bytes of their table.
     Bytes,
     /// As its characters, in UTF-8; with `true` looks stand between escape sequences.
-    Characters(Table, bool),
+    Characters(FixedTable, bool),
 }
 
 /// The form of a number: 0 for bytes, 1 for UTF-8, 2 for UTF-8 with escape sequences.
-pub(crate) fn form_of(number: u32, characters: Option<Table>) -> Form
+pub(crate) fn form_of(number: u32, characters: Option<FixedTable>) -> Form
     ensures { result ≡ specs.form_of number characters }
 {
     match characters {
@@ -121,7 +121,7 @@ fn ended(run: Run, strays: Result<u64, Fault>) -> Printed
 /// Prints a page as characters of a fixed table.
 fn print_fixed(
     page: &[u8],
-    table: Table,
+    table: FixedTable,
     escapes: bool,
     setup: &Setup<'_>,
     memory: &mut Memory,

@@ -15,7 +15,7 @@ use nr_vectors::CountedAlloc;
 use nr_vectors::slice_vec::SliceVec;
 use std::alloc::{AllocError, Global};
 use tbl_setting::{Complaint, Kind, ReadEnd, Rooms, convert};
-use utf8_characters::Table;
+use utf8_characters::FixedTable;
 
 /// The most bytes of a table that are held.
 const TABLE: usize = 262_144;
@@ -71,7 +71,7 @@ fn first_wrong(complaints: &[Complaint]) -> (u32, u64)
 /// Sets the tables, hands over what comes out and gives the number of the outcome.
 fn set_tables(
     alloc: &mut CountedAlloc,
-    table: Option<Table>,
+    table: Option<FixedTable>,
     line: usize,
     input: &[u8],
     output: &mut [u8],

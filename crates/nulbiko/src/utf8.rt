@@ -1,6 +1,6 @@
 // Bytes that a table has become its characters, as utf8 makes them.
 ghost use Rattle.std.specs.Prelude.{◌≡◌, ◌≢◌, ◌↔◌, drop, IfOk, OnErr};
-ghost use Rattle.utf8_characters.specs.declared.table.Table.{Table};
+ghost use Rattle.utf8_characters.specs.declared.table.FixedTable.{FixedTable};
 ghost use Rattle.preconv_coding.specs.UnderCoding.{text_of};
 ghost use Rattle.nulbiko.specs.Tables.{table_numbered, unchosen};
 ghost use Rattle.nulbiko.specs.Reported.{nothing_reported};
@@ -15,7 +15,7 @@ use super::tables::{UNCHOSEN, number_of, table_of};
 use super::text::Text;
 use nr_vectors::CountedAlloc;
 use std::alloc::{AllocError, Global};
-use utf8_characters::Table;
+use utf8_characters::FixedTable;
 use utf8_converter::{CHARACTERS, LOOKED_AT, RunEnd, choose, convert};
 
 /// The bytes of what is to go out.
@@ -38,7 +38,7 @@ fn code(outcome: RunEnd) -> u32
 /// Turns the bytes, hands over what comes out and gives the number of the outcome.
 fn turn_bytes(
     alloc: Global,
-    table: Table,
+    table: FixedTable,
     escapes: bool,
     input: &[u8],
     output: &mut [u8],
@@ -93,7 +93,7 @@ pub extern "C" fn nulbiko_utf8_lent(
     reported: &mut Report,
 ) -> u32
     ensures ranges { (result ≡ 2) ↔ (table_numbered table ≡ None) }
-    ensures turned { (t : Table) → table_numbered table ≡ Some t → result ≢ 5
+    ensures turned { (t : FixedTable) → table_numbered table ≡ Some t → result ≢ 5
         → TurnsBytes t escapes input.now output.new reported.new result }
     ensures bad { result ≡ 2 → (output.new ≡ output.old) × (reported.new ≡ nothing_reported) }
     ensures no_memory { result ≡ 5 → (output.new ≡ output.old) × (reported.new ≡ nothing_reported) }

@@ -2,7 +2,7 @@
 use Rattle.std.proofs.Common.{◌≡◌, ℕ, List, drop, Bool, Option, None, Some, Result, Ok, sym, refl, subst}
 use Rattle.nr_units.specs.Failures.{SinkFailures}
 use Rattle.preconv_converter.specs.declared.target.Target.TheVariants.{Ascii, Bytes}
-use Rattle.utf8_characters.specs.declared.table.Table.{Table}
+use Rattle.utf8_characters.specs.declared.table.FixedTable.{FixedTable}
 use Rattle.filters.specs.Disk.{Opening}
 use Rattle.filters.specs.Program.{Comes, IsRun, TurnsNames}
 use Rattle.filters.specs.Program as programs
@@ -32,7 +32,7 @@ by-own may_come asked asked' held new writes writes' passed_on words answer job 
 
 -- by a fixed table
 pub by-fixed : (may_come : List ℕ → Opening → Type 0) (asked asked' : Option (List (List ℕ))) (held new : Option (List ℕ)) (writes writes' : SinkFailures)
-    (passed_on : Bool) (words : List (List ℕ)) (answer : Result Job Wrong) (job : Job) (table : Table) (names : List (List ℕ)) (ending : Ending)
+    (passed_on : Bool) (words : List (List ℕ)) (answer : Result Job Wrong) (job : Job) (table : FixedTable) (names : List (List ℕ)) (ending : Ending)
     → Ok job ≡ answer → job.table ≡ Some (Fixed table) → names ≡ drop job.files words
     → TurnsNames may_come asked asked' held new writes writes' passed_on (preconv (Bytes table)) names ending
     → IsRun (AsksFor words answer) may_come asked asked' held new writes writes' passed_on ending

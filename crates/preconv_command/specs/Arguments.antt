@@ -1,7 +1,7 @@
 -- What the words of the command line come to.
 use Rattle.std.specs.Prelude.{ℕ, ◌+◌, ◌<◌, ◌≤◌, List, [], ◌∷◌, Bool, true, false, not, if◌then◌else◌, Option, None, Some, Result, Ok, Err, codes}
 use Rattle.std.specs.Str.{bytes_eq}
-use Rattle.utf8_characters.specs.declared.table.Table.TheVariants.{Latin1}
+use Rattle.utf8_characters.specs.declared.table.FixedTable.TheVariants.{Latin1}
 use Rattle.filters.specs.Arguments.{is_option}
 use Rattle.filters_own.specs.declared.names.Named.{Named}
 use Rattle.filters_own.specs.declared.names.Named.TheVariants.{Fixed}

@@ -5,7 +5,7 @@ ghost use Rattle.preconv_command.specs.Arguments.{IsWithin, asked};
 
 use filters::is_option;
 use filters_own::{Named, table_at};
-use utf8_characters::Table;
+use utf8_characters::FixedTable;
 
 /// What the words ask for.
 #[derive(Clone, Copy)]
@@ -51,7 +51,7 @@ pub fn read_words(words: &[&str]) -> Result<Job, Wrong>
                 files: place,
             });
         } else if bytes == b"-8".as_slice() {
-            table = Some(Named::Fixed(Table::Latin1));
+            table = Some(Named::Fixed(FixedTable::Latin1));
         } else if bytes == b"-u".as_slice() {
             awaits = true;
         } else {

@@ -17,9 +17,9 @@ use nr_units::buffered::Buffered;
 use nr_units::sink::Sink;
 use nr_vectors::slice_vec::SliceVec;
 use preconv_coding::UnderCoding;
-use preconv_converter::{Target, Turner as Characters};
+use preconv_converter::{PreconvConverter as Characters, Target};
 use std::io::Read;
-use utf8_own_characters::Table;
+use utf8_own_characters::OwnTable;
 use utf8_own_stage::Coder;
 
 /// Room for what one turn makes in UTF-8: it goes on while 1536 bytes of it are left.
@@ -30,13 +30,13 @@ const ROOM: usize = 65_568;
 
 /// Turns texts into the bytes of a table.
 #[derive(Drop)]
-struct OwnTurner<'a> {
-    table: &'a Table<'a>,
+struct OwnConverter<'a> {
+    table: &'a OwnTable<'a>,
     input: Vec<u8>,
     ghost good: { Good table.now },
 }
 
-impl Turns for OwnTurner<'_> {
+impl Turns for OwnConverter<'_> {
     ghost use Rattle.preconv_command.specs.Converting.{own};
 
     ghost filter = { λ turner. own turner.table.now };
@@ -94,7 +94,7 @@ pub(crate) fn turn_own<'a, P: Paths, I: Read + Copy + Drop, W: Sink, E: Sink>(
         return (Ending::OutOfMemory, output);
     };
     let table = cells.table();
-    let mut turner = OwnTurner {
+    let mut turner = OwnConverter {
         table: &table,
         input,
     };

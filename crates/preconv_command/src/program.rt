@@ -83,7 +83,7 @@ fn turn_fixed<'a, P: Paths, I: Read + Copy + Drop, W: Sink, E: Sink>(
     let Ok(buffers) = Buffers::new(disk.alloc) else {
         return (Ending::OutOfMemory, output);
     };
-    let mut turner = Turner { target, buffers };
+    let mut turner = Converter { target, buffers };
     turn_names(&mut turner, names, disk, output, errors)
 }
 
@@ -101,12 +101,12 @@ fn bad_word<'a>(wrong: Wrong, words: &[&'a str]) -> Ending<'a>
 
 /// Turns texts into the language of a table, or of ASCII.
 #[derive(Drop)]
-struct Turner {
+struct Converter {
     target: Target,
     buffers: Buffers,
 }
 
-impl Turns for Turner {
+impl Turns for Converter {
     ghost use Rattle.preconv_command.specs.Converting.{preconv};
 
     ghost filter = { λ turner. preconv turner.target };

@@ -2,7 +2,7 @@
 use Prim.Native.Char.{code}
 use Rattle.std.specs.Prelude.{ℕ, List, [], ◌∷◌, ◌++◌, length, Bool, false, not, ◌==◌, ◌&&◌, ◌||◌, nat_lt, if◌then◌else◌, Option, None, Some, is_some}
 use Rattle.unicode_normalization.specs.Compose.{primary_composite}
-use Rattle.utf8_characters.specs.declared.table.Table.{Table}
+use Rattle.utf8_characters.specs.declared.table.FixedTable.{FixedTable}
 use Rattle.utf8_characters.specs.Tables.{byte_of}
 use Rattle.preconv_converter.specs.declared.composed.Marked.{Marked}
 use Rattle.preconv_converter.specs.declared.composed.TheConstants.{ACCENTS}
@@ -68,13 +68,13 @@ marked_by name c = with_marks (unmarked c) [] (marks_in name)
 abbrev pub is_letter : ℕ → Bool
 is_letter c = is_within 128 8191 c
 
-abbrev pub is_beyond : Table → Marked → Bool
+abbrev pub is_beyond : FixedTable → Marked → Bool
 is_beyond table m = not (m.mark == 0) || (is_letter m.whole && not (is_some (byte_of table m.whole)))
 
-abbrev pub lacks_marked : Table → List ℕ → Option ℕ → Bool
+abbrev pub lacks_marked : FixedTable → List ℕ → Option ℕ → Bool
 lacks_marked table name None = false
 lacks_marked table name (Some c) = is_beyond table (marked_by name c)
 
 -- A fixed table lacks the letter of a name. What the language has itself is no letter.
-abbrev pub lacks_letter : Table → List ℕ → Bool
+abbrev pub lacks_letter : FixedTable → List ℕ → Bool
 lacks_letter table name = not (is_native name) && lacks_marked table name (glyph_code name)

@@ -11,8 +11,8 @@ use Rattle.preconv_converter.specs.declared.half.Line.TheVariants as lines
 use Rattle.preconv_converter.specs.declared.half.Before.{Before}
 use Rattle.preconv_converter.specs.declared.half.Before.TheVariants.{Character}
 use Rattle.preconv_converter.specs.declared.half.Mark.TheVariants.{Other, Stop}
-use Rattle.preconv_converter.specs.declared.half.Table.{Table}
-use Rattle.preconv_converter.specs.declared.half.Table.TheVariants as tables
+use Rattle.preconv_converter.specs.declared.half.TablePart.{TablePart}
+use Rattle.preconv_converter.specs.declared.half.TablePart.TheVariants as tables
 use Rattle.preconv_converter.specs.declared.half.Tag.{Tag}
 use Rattle.preconv_converter.specs.declared.half.Tag.TheVariants as tags
 use Rattle.preconv_converter.specs.declared.half.Pair.{Pair}
@@ -119,25 +119,25 @@ abbrev pub is_in_last : Tag → Bool
 is_in_last tags.InLast = true
 is_in_last tag = false
 
-abbrev pub is_read : Table → Bool
+abbrev pub is_read : TablePart → Bool
 is_read tables.Nowhere = false
 is_read table = true
 
-abbrev pub is_format : Table → Bool
+abbrev pub is_format : TablePart → Bool
 is_format tables.Format = true
 is_format table = false
 
-abbrev pub is_separated : Table → Bool
+abbrev pub is_separated : TablePart → Bool
 is_separated tables.Separated = true
 is_separated table = false
 
 -- a format begins, of a table or of more rows of it
-abbrev pub with_format : Table → Table
+abbrev pub with_format : TablePart → TablePart
 with_format tables.Separated = tables.Separated
 with_format table = tables.Format
 
 -- what is read of a table when a line ends, before whose end this stands: a format ends with a dot
-abbrev pub table_after : Table → Before → Table
+abbrev pub table_after : TablePart → Before → TablePart
 table_after tables.Format (Character Stop) = tables.Rows
 table_after table before = table
 

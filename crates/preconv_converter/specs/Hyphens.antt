@@ -10,8 +10,8 @@ use Rattle.preconv_converter.specs.declared.half.Before.{Before}
 use Rattle.preconv_converter.specs.declared.half.Before.TheVariants.{Character, Argument}
 use Rattle.preconv_converter.specs.declared.half.Mark.{Mark}
 use Rattle.preconv_converter.specs.declared.half.Mark.TheVariants.{Letter, Opening, Quote, Stop, Closing, Closed, Backslash, Other}
-use Rattle.preconv_converter.specs.declared.half.Table.{Table}
-use Rattle.preconv_converter.specs.declared.half.Table.TheVariants as tables
+use Rattle.preconv_converter.specs.declared.half.TablePart.{TablePart}
+use Rattle.preconv_converter.specs.declared.half.TablePart.TheVariants as tables
 use Rattle.preconv_converter.specs.declared.half.Escape.TheVariants as escapes
 use Rattle.preconv_converter.specs.Numbers.{is_within}
 use Rattle.preconv_converter.specs.Likeness.{is_latin_letter}
@@ -120,7 +120,7 @@ hyphen_by (Character mark) h = taken (says.Escape (code "-")) (record h { before
 hyphen_by Argument h = taken (says.Byte (code "-")) h
 
 -- in a format one stays, and after a bracket, as in `tab(-)`, it separates fields
-abbrev pub separated_by : Before → Table
+abbrev pub separated_by : Before → TablePart
 separated_by (Character Opening) = tables.Separated
 separated_by before = tables.Format
 

@@ -9,8 +9,8 @@ use Rattle.preconv_converter.specs.declared.half.Line.{Line}
 use Rattle.preconv_converter.specs.declared.half.Line.TheVariants as lines
 use Rattle.preconv_converter.specs.declared.half.Tag.{Tag}
 use Rattle.preconv_converter.specs.declared.half.Tag.TheVariants as tags
-use Rattle.preconv_converter.specs.declared.half.Table.{Table}
-use Rattle.preconv_converter.specs.declared.half.Table.TheVariants as tables
+use Rattle.preconv_converter.specs.declared.half.TablePart.{TablePart}
+use Rattle.preconv_converter.specs.declared.half.TablePart.TheVariants as tables
 use Rattle.preconv_converter.specs.declared.half.Before.{Before}
 use Rattle.preconv_converter.specs.declared.half.Before.TheVariants as befores
 use Rattle.preconv_converter.specs.declared.half.Mark.TheVariants as marks
@@ -124,7 +124,7 @@ manual_by opens.Title h = h.manual || not (is_read h.table)
 manual_by o h = h.manual
 
 -- the format of a table ends with a dot, but not with that of the line that begins it
-abbrev pub table_by : Opens → Table → Table
+abbrev pub table_by : Opens → TablePart → TablePart
 table_by opens.Table table = with_format table
 table_by opens.TableEnd table = tables.Nowhere
 table_by o table = table

@@ -3,13 +3,13 @@ use Prim.Native.Char.{code}
 use lib.Utf8.{scalar}
 use Rattle.std.specs.Char.{encode_utf8}
 use Rattle.std.specs.Prelude.{ℕ, List, Bool, true, false, if◌then◌else◌, Option, None, Some}
-use Rattle.utf8_characters.specs.declared.table.Table.{Table}
+use Rattle.utf8_characters.specs.declared.table.FixedTable.{FixedTable}
 use Rattle.utf8_characters.specs.Tables.{byte_of}
 use Rattle.preconv_converter.specs.declared.target.Target.{Target}
 use Rattle.preconv_converter.specs.declared.target.Target.TheVariants.{Ascii, Bytes, Utf8}
 
 -- the bytes of a table, or ASCII
-abbrev pub target_of : Option Table → Target
+abbrev pub target_of : Option FixedTable → Target
 target_of None = Ascii
 target_of (Some table) = Bytes table
 

@@ -8,7 +8,7 @@ use super::glyphs::{below_codes, glyph_code, is_native, named_in};
 use super::likeness::character_of;
 use super::numbers::number_from;
 use unicode_normalization::char::compose;
-use utf8_characters::Table;
+use utf8_characters::FixedTable;
 
 /// The marks of accents.
 pub(crate) static ACCENTS: [([u8; 2], u32); 22] = [
@@ -170,7 +170,7 @@ fn is_letter(code: u32) -> bool
 }
 
 /// Whether a fixed table lacks the letter of a name: one beyond ASCII, or with a mark that composes with nothing.
-pub fn lacks_letter(table: Table, name: &[u8]) -> bool
+pub fn lacks_letter(table: FixedTable, name: &[u8]) -> bool
     ensures { result ≡ specs.lacks_letter table name.now }
 {
     if is_native(name) {

@@ -134,7 +134,7 @@ pub(crate) enum Tag {
 
 /// What is read of a table.
 #[derive(Clone, Copy)]
-pub(crate) enum Table {
+pub(crate) enum TablePart {
     /// None is read.
     Nowhere,
     /// Its options and format, in which a hyphen is no text.
@@ -258,7 +258,7 @@ pub(crate) struct Half {
     /// It is a manual page: a title came.
     pub manual: bool,
     /// What is read of a table.
-    pub table: Table,
+    pub table: TablePart,
     /// What stands before the next character, where it is a manual page.
     pub before: Before,
     /// In which line a tag stands.
@@ -395,30 +395,30 @@ impl Tag {
     }
 }
 
-impl Table {
+impl TablePart {
     /// Whether a table is read.
     pub(crate) fn is_read(self) -> bool
         ensures { result ≡ is_read self }
     {
-        !matches!(self, Table::Nowhere)
+        !matches!(self, TablePart::Nowhere)
     }
 
     /// What is read of it when another format begins, or one in a row of them.
-    pub(crate) fn with_format(self) -> Table
+    pub(crate) fn with_format(self) -> TablePart
         ensures { result ≡ with_format self }
     {
         match self {
-            Table::Separated => Table::Separated,
-            _ => Table::Format,
+            TablePart::Separated => TablePart::Separated,
+            _ => TablePart::Format,
         }
     }
 
     /// What is read of it when a line ends, before whose end this stands: a format ends with a dot.
-    pub(crate) fn next_line(self, before: Before) -> Table
+    pub(crate) fn next_line(self, before: Before) -> TablePart
         ensures { result ≡ table_after self before }
     {
         match (self, before) {
-            (Table::Format, Before::Character(Mark::Stop)) => Table::Rows,
+            (TablePart::Format, Before::Character(Mark::Stop)) => TablePart::Rows,
             (table, _) => table,
         }
     }
@@ -449,7 +449,7 @@ impl Half {
             dashes: false,
             quotes: false,
             manual: false,
-            table: Table::Nowhere,
+            table: TablePart::Nowhere,
             before: Before::Character(Mark::Other),
             tag: Tag::Nowhere,
             font: b'R',

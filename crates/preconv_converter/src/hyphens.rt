@@ -3,7 +3,7 @@ ghost use Rattle.std.specs.Prelude.{◌≡◌, true};
 ghost use Rattle.preconv_converter.specs.Half.{offered};
 ghost use Rattle.preconv_converter.specs.Hyphens as specs;
 
-use super::half::{Before, Escape, Half, Line, Mark, Seen, Table};
+use super::half::{Before, Escape, Half, Line, Mark, Seen, TablePart};
 use super::likeness::is_latin_letter;
 use super::said::Said;
 use nr_units::Name;
@@ -171,7 +171,7 @@ impl Half {
     pub(crate) fn turns_hyphens(&self) -> bool
         ensures { result ≡ specs.turns_hyphens self.now }
     {
-        self.manual && !matches!(self.table, Table::Separated)
+        self.manual && !matches!(self.table, TablePart::Separated)
     }
 
     /// Whether text is that of a manual page, and of no table.
@@ -189,7 +189,7 @@ impl Half {
         if !has_hyphens(line) {
             return Seen::taken(Said::Byte(b'-'));
         }
-        if matches!(self.table, Table::Format) {
+        if matches!(self.table, TablePart::Format) {
             return self.format_hyphen();
         }
         self.text_hyphen()
@@ -200,8 +200,8 @@ impl Half {
         ensures { offered self.new result ≡ specs.hyphen_at true self.old.before self.old }
     {
         self.table = match self.before {
-            Before::Character(Mark::Opening) => Table::Separated,
-            _ => Table::Format,
+            Before::Character(Mark::Opening) => TablePart::Separated,
+            _ => TablePart::Format,
         };
         self.before = Before::Character(Mark::Other);
         Seen::taken(Said::Byte(b'-'))

@@ -44,6 +44,6 @@ pub use document_stages::RunEnd;
 pub use likeness::put_likeness;
 pub use plain_text::passes_unchanged;
 pub use running::convert;
-pub use staged::Turner;
+pub use staged::PreconvConverter;
 pub use target::Target;
 pub use word_laws::words_go_out;

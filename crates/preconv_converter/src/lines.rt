@@ -4,7 +4,7 @@ ghost use Rattle.preconv_converter.specs.Half.{offered};
 ghost use Rattle.preconv_converter.specs.Lines as specs;
 
 use super::beginnings::{Opens, opened, said_name};
-use super::half::{Before, Dots, Half, Line, Mark, Pair, Seen, Table, Tag};
+use super::half::{Before, Dots, Half, Line, Mark, Pair, Seen, TablePart, Tag};
 use super::hyphens::wide_mark;
 use super::said::Said;
 use super::words::{Class, Fonts, WordFont, Words};
@@ -156,7 +156,7 @@ impl Half {
                 self.table = self.table.with_format();
                 self.before = Before::Character(Mark::Other);
             }
-            Opens::TableEnd => self.table = Table::Nowhere,
+            Opens::TableEnd => self.table = TablePart::Nowhere,
             _ => {}
         }
     }

@@ -11,7 +11,7 @@ ghost use Rattle.preconv_converter.specs.Saying.{may_go_out};
 ghost use Rattle.preconv_converter.specs.Staged.{said, steps_said};
 ghost use Rattle.preconv_converter.specs.Unread.{CommentsAreUnread, IgnoredLinesAreUnread};
 
-use super::staged::Turner;
+use super::staged::PreconvConverter;
 use super::target::Target;
 use document_stages::{RunEnd, run};
 use nr_units::sink::Sink;
@@ -70,7 +70,7 @@ pub fn convert<R: Source, W: Sink>(
     ensures characters { (cs : List ℕ) → all_scalars cs ≡ true → fed (first_reader table) (encode_utf8_all cs)
         ≡ read_characters (first_reader table) cs }
 {
-    let mut text = Turner::new(table);
+    let mut text = PreconvConverter::new(table);
     let outcome = run(&mut text, input, output, buffer);
     *steps = text.steps();
     outcome

@@ -14,21 +14,21 @@ use nr_vectors::slice_vec::SliceVec;
 /// Proved: A text that is turned a part at a time comes to the same: what goes out of the parts, one after another,
 /// and of the end is `converted`, in whatever parts it comes.
 #[derive(Drop)]
-pub struct Turner {
+pub struct PreconvConverter {
     reader: Reader,
     // So many steps were made, or more than it can say.
     steps: u64,
 }
 
-impl Turner {
+impl PreconvConverter {
     /// A text begins, whose characters beyond ASCII become this.
-    pub fn new(characters: Target) -> Turner
-        ensures says { ⟦<Turner as Stage>⟧.says result ≡ said (first_reader characters) }
-        ensures fits { ⟦<Turner as Stage>⟧.fits result ≡ fits_always }
-        ensures counts { ⟦<Turner as Stage>⟧.counts result ≡ counted 0 (first_reader characters) }
-        ensures wants { ⟦<Turner as Stage>⟧.wants result ≡ 1536 }
+    pub fn new(characters: Target) -> PreconvConverter
+        ensures says { ⟦<PreconvConverter as Stage>⟧.says result ≡ said (first_reader characters) }
+        ensures fits { ⟦<PreconvConverter as Stage>⟧.fits result ≡ fits_always }
+        ensures counts { ⟦<PreconvConverter as Stage>⟧.counts result ≡ counted 0 (first_reader characters) }
+        ensures wants { ⟦<PreconvConverter as Stage>⟧.wants result ≡ 1536 }
     {
-        Turner {
+        PreconvConverter {
             reader: Reader::new(characters),
             steps: 0,
         }
@@ -36,13 +36,13 @@ impl Turner {
 
     /// How many steps were made.
     pub fn steps(&self) -> u64
-        ensures { result ≡ ⟦<Turner as Stage>⟧.counts self.now false [] }
+        ensures { result ≡ ⟦<PreconvConverter as Stage>⟧.counts self.now false [] }
     {
         self.steps
     }
 }
 
-impl Stage for Turner {
+impl Stage for PreconvConverter {
     ghost use Rattle.std.specs.Prelude.{refl};
     ghost use Rattle.document_stages.specs.Pulling.{fits_always};
     ghost use Rattle.preconv_converter.specs.Staged.{counted, said};

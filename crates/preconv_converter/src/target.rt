@@ -2,7 +2,7 @@
 ghost use Rattle.std.specs.Prelude.{◌≡◌};
 ghost use Rattle.preconv_converter.specs.Targets.{is_utf8, target_of};
 
-use utf8_characters::Table;
+use utf8_characters::FixedTable;
 
 /// What characters beyond ASCII become.
 #[derive(Clone, Copy, Debug, PartialEq, Eq)]
@@ -10,14 +10,14 @@ pub enum Target {
     /// What they look like in ASCII.
     Ascii,
     /// Those of a table become its bytes, the others what they look like.
-    Bytes(Table),
+    Bytes(FixedTable),
     /// They stay themselves, in UTF-8.
     Utf8,
 }
 
 impl Target {
     /// The bytes of a table, or ASCII.
-    pub fn of(table: Option<Table>) -> Target
+    pub fn of(table: Option<FixedTable>) -> Target
         ensures { result ≡ target_of table }
     {
         match table {

@@ -1,7 +1,7 @@
 -- How a page is printed, by words, surroundings and the bytes that were looked at.
 use Rattle.std.specs.Prelude.{◌≡◌, ℕ, pos, min, List, [], length, take, Bool, true, false, ◌==◌, ◌||◌, ◌&&◌, if◌then◌else◌, Option, None, Some, IsSomeAnd}
-use Rattle.utf8_characters.specs.declared.table.Table.{Table}
-use Rattle.utf8_characters.specs.declared.table.Table.TheVariants as tables
+use Rattle.utf8_characters.specs.declared.table.FixedTable.{FixedTable}
+use Rattle.utf8_characters.specs.declared.table.FixedTable.TheVariants as tables
 use Rattle.utf8_converter.specs.Choosing.{chosen, looked_at}
 use Rattle.nr_page.specs.Selection.{IsPageList}
 use Rattle.nr_page.specs.declared.faces.Faces.{Faces as Looks}
@@ -28,11 +28,11 @@ device_or None usual = usual
 device_or (Some device) usual = device
 
 -- the table that has most of the characters of what was looked at
-unfoldable pub table_with_most : List ℕ → Table
+unfoldable pub table_with_most : List ℕ → FixedTable
 table_with_most first = chosen (take looked_at first)
 
 -- the table of characters: none for ASCII
-abbrev pub table_for : Device → List ℕ → Option Table
+abbrev pub table_for : Device → List ℕ → Option FixedTable
 table_for Utf8 first = Some (table_with_most first)
 table_for Latin1 first = Some tables.Latin1
 table_for Ascii first = None

@@ -7,7 +7,7 @@ use Rattle.nr_options.specs.declared.options.Options.{Options}
 use Rattle.preconv_converter.specs.Targets.{target_of}
 use Rattle.preconv_converter.specs.declared.target.Target.TheVariants.{Ascii, Utf8}
 use Rattle.tbl_setting.specs.Drawing.{signs_of}
-use Rattle.utf8_characters.specs.declared.table.Table.{Table}
+use Rattle.utf8_characters.specs.declared.table.FixedTable.{FixedTable}
 use Rattle.utf8_own_characters.specs.Table.{Characters, Good}
 use Rattle.utf8_own_characters.specs.declared.counting.Count.{Count}
 use Rattle.utf8_own_page.specs.Needing.{IsMadeOf}
@@ -56,7 +56,7 @@ given_by means limits = record {
 
 -- ---- with the fixed table of its plan
 
-abbrev pub spelling_with : Option Table → Bool → Bool → Spelling
+abbrev pub spelling_with : Option FixedTable → Bool → Bool → Spelling
 spelling_with (Some table) true escapes = spellings.Utf8 (Fixed table) escapes
 spelling_with other spells escapes = spellings.Bytes
 

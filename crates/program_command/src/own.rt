@@ -17,7 +17,7 @@ use nr_engine::{Desk, Sink, Source};
 use nr_vectors::CountedAlloc;
 use preconv_converter::Target;
 use std::alloc::{AllocError, Global};
-use utf8_own_characters::{Count, Table};
+use utf8_own_characters::{Count, OwnTable};
 use utf8_own_page::{Cells, counted, lacks, names_of_numbered, signs_of};
 
 /// The bytes of characters that go out at once.
@@ -129,7 +129,7 @@ pub(crate) fn print_by_plan<R: Source + Drop, W: Sink + Drop>(
 }
 
 /// How a page shows that has become the bytes of its own table.
-fn own_showing<'a>(table: &'a Table<'a>, plan: &Plan, means: Means<'a>) -> Showing<'a>
+fn own_showing<'a>(table: &'a OwnTable<'a>, plan: &Plan, means: Means<'a>) -> Showing<'a>
     ensures { result ≡ own_showing plan.now table.entry means.entry }
 {
     Showing {
@@ -153,7 +153,7 @@ fn own_showing<'a>(table: &'a Table<'a>, plan: &Plan, means: Means<'a>) -> Showi
 /// Prints a page with these characters.
 fn print_own<'a, R: Source + Drop, W: Sink + Drop>(
     page: R,
-    table: &'a Table<'a>,
+    table: &'a OwnTable<'a>,
     plan: &Plan,
     means: Means<'a>,
     desk: &mut Desk,

@@ -12,7 +12,7 @@ use nr_page::Select;
 use program_options::{Device, Faces, Job};
 use program_plan::{Macros, cells_of};
 use std::alloc::{AllocError, Global};
-use utf8_characters::Table;
+use utf8_characters::FixedTable;
 use utf8_converter::{CHARACTERS, choose};
 
 /// The bytes of a text that say what it is, and what characters it has.
@@ -37,7 +37,7 @@ pub(crate) struct Plan {
     /// Its tables are set.
     pub tables: bool,
     /// The table of its characters; none for ASCII.
-    pub characters: Option<Table>,
+    pub characters: Option<FixedTable>,
     /// Its characters go out in UTF-8.
     pub spells: bool,
     /// What is underlined or bold stands between escape sequences, then.
@@ -86,18 +86,18 @@ fn is_cut(prefix: &[u8]) -> bool
 }
 
 /// The table of the characters of a text, by its first bytes: none where ASCII is printed.
-fn table_of(device: Device, prefix: &[u8], alloc: Global) -> Result<Option<Table>, AllocError>
+fn table_of(device: Device, prefix: &[u8], alloc: Global) -> Result<Option<FixedTable>, AllocError>
     ensures { IfOk result (λ table. table ≡ table_for device prefix.now) }
 {
     match device {
         Device::Utf8 => Ok(Some(fullest(prefix, alloc)?)),
-        Device::Latin1 => Ok(Some(Table::Latin1)),
+        Device::Latin1 => Ok(Some(FixedTable::Latin1)),
         Device::Ascii => Ok(None),
     }
 }
 
 /// The table that has most of the characters of a text, by its first bytes.
-fn fullest(prefix: &[u8], alloc: Global) -> Result<Table, AllocError>
+fn fullest(prefix: &[u8], alloc: Global) -> Result<FixedTable, AllocError>
     ensures { IfOk result (λ table. table ≡ table_with_most prefix.now) }
 {
     let mut page = vec![in alloc; 0u8; LOOKED_AT]?;

@@ -4,7 +4,7 @@ use Rattle.nr_units.specs.Failures.{SinkFailures}
 use Rattle.tbl_table.specs.declared.signs.Signs.{Signs}
 use Rattle.tbl_setting.specs.Drawing.{signs_of}
 use Rattle.tbl_setting.specs.Bounds.{Bounds}
-use Rattle.utf8_characters.specs.declared.table.Table.{Table}
+use Rattle.utf8_characters.specs.declared.table.FixedTable.{FixedTable}
 use Rattle.utf8_own_characters.specs.Table.{Characters}
 use Rattle.filters.specs.Disk.{Opening}
 use Rattle.filters.specs.Program.{Comes, IsRun, TurnsNames}
@@ -48,7 +48,7 @@ by-own may_come asked asked' held new writes writes' passed_on words job place f
 
 -- by a fixed table
 pub by-fixed : (may_come : List ℕ → Opening → Type 0) (asked asked' : Option (List (List ℕ))) (held new : Option (List ℕ)) (writes writes' : SinkFailures)
-    (passed_on : Bool) (words : List (List ℕ)) (job : Job) (table : Table) (names : List (List ℕ)) (ending : Ending)
+    (passed_on : Bool) (words : List (List ℕ)) (job : Job) (table : FixedTable) (names : List (List ℕ)) (ending : Ending)
     → IsAnswer words (Ok job) → job.characters ≡ Some (Fixed table) → names ≡ drop job.files words
     → TurnsNames may_come asked asked' held new writes writes' passed_on (tbl (bounds_of (signs_of (Some table)) job)) names ending
     → IsRun (AsksFor words) may_come asked asked' held new writes writes' passed_on ending

@@ -13,7 +13,7 @@ use filters::{Disk, Ending, Filter, Paths, turn_names};
 use filters_own::{Named, file_at, look_at};
 use nr_units::sink::Sink;
 use std::io::Read;
-use utf8_characters::Table;
+use utf8_characters::FixedTable;
 use utf8_own_page::signs_of;
 
 /// The program.
@@ -62,7 +62,7 @@ impl Filter for Tbl {
 
 /// Sets the tables of the texts of these names, with frames that are drawn with what a fixed table has, or in ASCII.
 fn turn_fixed<'a, P: Paths, I: Read + Copy + Drop, W: Sink, E: Sink>(
-    fixed: Option<Table>,
+    fixed: Option<FixedTable>,
     job: Job,
     names: &[&'a str],
     disk: &mut Disk<P, I>,

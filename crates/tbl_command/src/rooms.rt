@@ -14,7 +14,7 @@ use nr_vectors::slice_vec::SliceVec;
 use std::alloc::{AllocError, Global};
 use std::io::Read;
 use tbl_setting::{Complaint, ReadEnd, Signs, convert};
-use utf8_characters::Table;
+use utf8_characters::FixedTable;
 
 /// How many complaints about the tables of a text are reported.
 const MOST_COMPLAINTS: usize = 64;
@@ -46,7 +46,7 @@ impl Rooms {
     }
 
     /// Takes the memory of a job whose frames are drawn with what a fixed table has, or in ASCII.
-    pub fn new(job: Job, fixed: Option<Table>, alloc: Global) -> Result<Rooms, AllocError>
+    pub fn new(job: Job, fixed: Option<FixedTable>, alloc: Global) -> Result<Rooms, AllocError>
         ensures held { IfOk result (λ rooms. rooms.held ≡ bounds_of (signs_of fixed) job) }
         ensures complaints { IfOk result (λ rooms. length rooms.complaints.items ≡ 64) }
     {

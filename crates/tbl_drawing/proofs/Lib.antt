@@ -6,7 +6,7 @@ pub mod Chosen
 pub mod Definitions
 pub mod Ends
 pub mod FieldsStand
-pub mod Fronts
+pub mod Prefixes
 pub mod GoneDown
 pub mod InColumns
 pub mod Joined

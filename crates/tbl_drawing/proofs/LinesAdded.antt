@@ -18,7 +18,7 @@ use Rattle.tbl_table.specs.declared.table.Item.TheVariants as items
 use Rattle.tbl_table.specs.Held.{is_boxed, is_double, item, none_of}
 use Rattle.tbl_table.specs.Lists.{added, in_turn, put}
 use Rattle.tbl_table.specs.Sums.{sum}
-use Rattle.tbl_drawing.proofs.Fronts.{Front, front_other, front_row, row_is}
+use Rattle.tbl_drawing.proofs.Prefixes.{Prefix, prefix_other, prefix_row, row_is}
 use Rattle.tbl_drawing.proofs.OverRows.{Room, released_room, stepped_room}
 use Rattle.tbl_drawing.proofs.Locks.{Lock, Locked, above_next, above_none, both_beside, both_other, both_released, both_request, both_ruled, both_step, if_locked, itself, lock_step, lower, more_above, relock}
 
@@ -150,14 +150,14 @@ both_row u a v w quiet room l =
 -- ---- all items
 
 abbrev Rows : Layout → Layout → ℕ → Walking → Walking → Type 0
-Rows t u k v w = (a : ℕ) × Front t k a × Locked u a v w
+Rows t u k v w = (a : ℕ) × Prefix t k a × Locked u a v w
 
 both_item : (t u : Layout) (k : ℕ) (i : Item) (v w : Walking) → IsRead t.grid.table → k < length t.grid.table.items.items → item t.grid.table k ≡ i
     → w.layout.grid ≡ t.grid → ((r : ℕ) → (placed t.grid r).own ≡ false → (tall u r).more ≡ 0) → Room 4 w → Rows t u k v w
     → Rows t u (suc k) (walked_item i v) (walked_item i w)
 both_item t u k items.Rule v w q inside e grid quiet room f = (
   f.0,
-  front_other t k f.0 (λ r x. no_row (sym e ∙ x)) f.1,
+  prefix_other t k f.0 (λ r x. no_row (sym e ∙ x)) f.1,
   both_ruled u f.0 true (released_beside v) (released_beside w) (both_beside u f.0 3 v w room f.2),
 )
   where
@@ -165,7 +165,7 @@ both_item t u k items.Rule v w q inside e grid quiet room f = (
     no_row x = cc
 both_item t u k (items.Request s) v w q inside e grid quiet room f = (
   f.0,
-  front_other t k f.0 (λ r x. no_row (sym e ∙ x)) f.1,
+  prefix_other t k f.0 (λ r x. no_row (sym e ∙ x)) f.1,
   both_request u f.0 s v w (omega (arith, room)) f.2,
 )
   where
@@ -175,7 +175,7 @@ both_item t u k (items.Row r) v w q inside e grid quiet room f =
     let same : r ≡ f.0 = row_is t k f.0 r q inside e f.1 in
     subst (λ (x : ℕ). Rows t u (suc k) (walked_item (items.Row x) v) (walked_item (items.Row x) w)) (sym same) (
       suc f.0,
-      front_row t k f.0 (e ∙ ap (λ (x : ℕ). items.Row x) same) f.1,
+      prefix_row t k f.0 (e ∙ ap (λ (x : ℕ). items.Row x) same) f.1,
       both_row u f.0 v w (λ no. quiet f.0 (ap (λ (g : Grid). (placed g f.0).own) (sym grid) ∙ no)) room f.2,
     )
 

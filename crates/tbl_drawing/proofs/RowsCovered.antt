@@ -20,18 +20,18 @@ use Rattle.tbl_table.specs.Held.{item}
 use Rattle.tbl_table.specs.Lists.{in_turn}
 use Rattle.tbl_drawing.proofs.OverRows.{Begun, IsClosed, Over, Room, beside, closed_stays}
 use Rattle.tbl_drawing.proofs.OpenRows.{Phase, open_request, open_rule, row_phase}
-use Rattle.tbl_drawing.proofs.Fronts.{Front, front_other, front_row, row_is}
+use Rattle.tbl_drawing.proofs.Prefixes.{Prefix, prefix_other, prefix_row, row_is}
 use Rattle.tbl_drawing.proofs.WalkHas.{end_has, item_has}
 
 abbrev Fronted : Layout → ℕ → ℕ → Walking → Type 0
-Fronted t n k w = (a : ℕ) × Front t k a × Phase t n a w
+Fronted t n k w = (a : ℕ) × Prefix t k a × Phase t n a w
 
 item_phase : (t : Layout) (n k : ℕ) (i : Item) (w : Walking) → IsRead t.grid.table → Over t.grid n → k < length t.grid.table.items.items
     → item t.grid.table k ≡ i → w.layout.grid ≡ t.grid → ((r : ℕ) → lines_of (tall w.layout r) ≡ lines_of (tall t r)) → Room 4 w
     → Fronted t n k w → Fronted t n (suc k) (walked_item i w)
 item_phase t n k items.Rule w q h inside e grid lines room f = (
   f.0,
-  front_other t k f.0 (λ r x. no_row (sym e ∙ x)) f.1,
+  prefix_other t k f.0 (λ r x. no_row (sym e ∙ x)) f.1,
   elim f.2 [
     | inl before ↦ inl before
     | inr more ↦ elim more [
@@ -45,7 +45,7 @@ item_phase t n k items.Rule w q h inside e grid lines room f = (
     no_row x = cc
 item_phase t n k (items.Request s) w q h inside e grid lines room f = (
   f.0,
-  front_other t k f.0 (λ r x. no_row (sym e ∙ x)) f.1,
+  prefix_other t k f.0 (λ r x. no_row (sym e ∙ x)) f.1,
   elim f.2 [
     | inl before ↦ inl before
     | inr more ↦ elim more [
@@ -61,7 +61,7 @@ item_phase t n k (items.Row r) w q h inside e grid lines room f =
     let same : r ≡ f.0 = row_is t k f.0 r q inside e f.1 in
     subst (λ (x : ℕ). Fronted t n (suc k) (walked_item (items.Row x) w)) (sym same) (
       suc f.0,
-      front_row t k f.0 (e ∙ ap (λ (x : ℕ). items.Row x) same) f.1,
+      prefix_row t k f.0 (e ∙ ap (λ (x : ℕ). items.Row x) same) f.1,
       elim f.2 [
         | inl before ↦
             elim (equal_or f.0 (cell_of t.grid n).top) [

@@ -3,10 +3,10 @@ ghost use Rattle.std.specs.Prelude.{◌≡◌};
 ghost use Rattle.tbl_setting.specs.Drawing as specs;
 
 use tbl_table::{Joints, Signs};
-use utf8_characters::Table;
+use utf8_characters::FixedTable;
 
 /// The bytes of three characters, if the table has them.
-fn joints_in(table: Table, begins: char, crosses: char, ends: char) -> Option<Joints>
+fn joints_in(table: FixedTable, begins: char, crosses: char, ends: char) -> Option<Joints>
     ensures { result ≡ specs.joints_in table begins crosses ends }
 {
     Some(Joints {
@@ -17,7 +17,7 @@ fn joints_in(table: Table, begins: char, crosses: char, ends: char) -> Option<Jo
 }
 
 /// All that frames are drawn with, if the table has it.
-fn boxes_in(table: Table) -> Option<Signs>
+fn boxes_in(table: FixedTable) -> Option<Signs>
     ensures { result ≡ specs.boxes_in table }
 {
     Some(Signs {
@@ -30,7 +30,7 @@ fn boxes_in(table: Table) -> Option<Signs>
 }
 
 /// What frames and rules are drawn with: the characters of the table, or ASCII where it lacks one.
-pub fn signs_of(table: Option<Table>) -> Signs
+pub fn signs_of(table: Option<FixedTable>) -> Signs
     ensures { result ≡ specs.signs_of table }
 {
     let Some(table) = table else {

@@ -20,7 +20,7 @@ use std::marker::Model;
 use tbl_drawing::Out;
 use tbl_reader::{Complaint, Limits, ReadEnd, Reader, read_page};
 use tbl_table::Signs;
-use utf8_characters::Table as Characters;
+use utf8_characters::FixedTable as Characters;
 
 /// The bytes that wait to go out at most.
 const PENDING: usize = 4_096;

@@ -5,16 +5,16 @@ ghost use Rattle.tbl_setting.specs.Drawing.{signs_of};
 ghost use Rattle.tbl_stage.specs.Memory.{limits_of, memory_of};
 ghost use Rattle.tbl_stage.specs.Text.{bounds_in, set_text};
 
+use super::setter::TableSetter;
 use super::space::Space;
 use super::tables::Tables;
 use super::turned::Turned;
-use super::turner::Turner;
 use nr_units::source::Source;
 use nr_vectors::{CountedAlloc, FixedVec};
 use std::alloc::AllocError;
 use tbl_reader::Complaint;
 use tbl_setting::{Signs, signs_of};
-use utf8_characters::Table as Characters;
+use utf8_characters::FixedTable as Characters;
 
 /// The greatest limit.
 const MOST: usize = 1_099_511_627_775;
@@ -73,7 +73,7 @@ impl Rooms {
 }
 
 /// A source of a text whose tables are set.
-pub type SetText<'a, R> = Turned<'a, R, Turner<'a>>;
+pub type SetText<'a, R> = Turned<'a, R, TableSetter<'a>>;
 
 /// A source whose tables are set as it is read: it gives what goes out of them, and what is outside of them as it is. The
 /// complaints go into slots that are lent: what these hold is of no account. Nothing is allocated.
@@ -93,6 +93,6 @@ pub fn set_tables<'a, R: Source>(
 {
     let Rooms { tables, space } = rooms;
     let most = space.capacity().saturating_sub(1);
-    let turner = Turner::over(tables, most, complaints);
-    Turned::over(turner, input, space)
+    let setter = TableSetter::over(tables, most, complaints);
+    Turned::over(setter, input, space)
 }

@@ -24,7 +24,7 @@ use std::mem;
 use tbl_drawing::Out;
 use tbl_reader::{Complaint, Limits, Reader};
 use tbl_setting::{Setting, Signs, Step, set_next, signs_of};
-use utf8_characters::Table as Characters;
+use utf8_characters::FixedTable as Characters;
 
 /// The bytes that wait to go out at most.
 const PENDING: usize = 4_096;

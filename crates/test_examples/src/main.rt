@@ -19,7 +19,7 @@ mod limits;
 mod tables;
 
 use limits::limits_of;
-use tables::Turner;
+use tables::TableSetter;
 
 /// The bytes of the buffer of an example's input.
 const BUFFER_SIZE: usize = 4096;
@@ -97,7 +97,7 @@ fn passes_under<R: Files + AllocGlobal + Print>(
 
 /// How many of the examples of tables pass.
 fn examples_of_tables<R: Files + AllocGlobal + Print>(rt: &R) -> anyhow::Result<u64> {
-    let mut turner = Turner::new(rt.alloc())?;
+    let mut turner = TableSetter::new(rt.alloc())?;
     let mut desk = Desk::new(&mut CountedAlloc::new(rt.alloc()), Limits::default())?;
     examples_of_tables_at(rt, &mut desk, &mut turner)
 }
@@ -106,7 +106,7 @@ fn examples_of_tables<R: Files + AllocGlobal + Print>(rt: &R) -> anyhow::Result<
 fn examples_of_tables_at<R: Files + AllocGlobal + Print>(
     rt: &R,
     desk: &mut Desk,
-    turner: &mut Turner,
+    turner: &mut TableSetter,
 ) -> anyhow::Result<u64> {
     let list = fs::read_to_string(rt, "examples_of_tables")?;
     let mut passed = 0u64;

@@ -10,7 +10,7 @@ use std::alloc::{AllocError, Global};
 use std::fs;
 use std::rt::Files;
 use tbl_setting::{Complaint, Kind, Report, Rooms, convert};
-use utf8_characters::Table;
+use utf8_characters::FixedTable;
 
 /// The most bytes that tbl makes of an example.
 const MOST_BYTES: usize = 262_144;
@@ -26,15 +26,15 @@ const MOST_COMPLAINTS: usize = 8;
 
 /// The memory that examples are turned in.
 #[derive(Drop)]
-pub(crate) struct Turner {
+pub(crate) struct TableSetter {
     turned: Vec<u8>,
     complaints: Vec<Complaint>,
 }
 
-impl Turner {
+impl TableSetter {
     /// Takes the memory.
-    pub(crate) fn new(alloc: Global) -> Result<Turner, AllocError> {
-        Ok(Turner {
+    pub(crate) fn new(alloc: Global) -> Result<TableSetter, AllocError> {
+        Ok(TableSetter {
             turned: vec![in alloc; 0u8; MOST_BYTES]?,
             complaints: vec![in alloc; Complaint::NONE; MOST_COMPLAINTS]?,
         })
@@ -46,7 +46,7 @@ impl Turner {
 pub(crate) fn passes<R: Files + AllocGlobal + Print>(
     rt: &R,
     desk: &mut Desk,
-    turner: &mut Turner,
+    turner: &mut TableSetter,
     line: &str,
 ) -> anyhow::Result<bool> {
     let (run, end) = line
@@ -77,7 +77,7 @@ struct Bounds {
     formats: usize,
     row: usize,
     line: usize,
-    characters: Option<Table>,
+    characters: Option<FixedTable>,
 }
 
 /// What the words set, as in `formats=4 row=64` or `characters=english`.
@@ -93,7 +93,7 @@ fn limits_of(words: &str) -> anyhow::Result<Bounds> {
             .split_once('=')
             .ok_or(anyhow::anyhow!("no limit: {word}"))?;
         if name == "characters" {
-            limits.characters = Table::named(value);
+            limits.characters = FixedTable::named(value);
             continue;
         }
         let number = value.parse::<usize>()?;
@@ -111,7 +111,7 @@ fn limits_of(words: &str) -> anyhow::Result<Bounds> {
 fn gives<R: Files + AllocGlobal + Print>(
     rt: &R,
     desk: &mut Desk,
-    turner: &mut Turner,
+    turner: &mut TableSetter,
     example: Example<'_>,
     buffer: &mut [u8],
 ) -> anyhow::Result<bool> {
@@ -176,7 +176,7 @@ struct Ran {
 /// Turns the tables of an input, and formats what that makes of it.
 fn run_example<R: Source>(
     desk: &mut Desk,
-    turner: &mut Turner,
+    turner: &mut TableSetter,
     rooms: &mut Rooms,
     input: &mut R,
     printed: &mut [u8],

@@ -8,7 +8,7 @@ use nr_vectors::CountedAlloc;
 use nr_vectors::slice_vec::SliceVec;
 use std::alloc::{AllocError, Global};
 use utf8_own_characters::{
-    Cluster, Count, Listener, Table, choose, end_look, fill_slots, look_at, rank,
+    Cluster, Count, Listener, OwnTable, choose, end_look, fill_slots, look_at, rank,
 };
 use utf8_own_sink::Shown;
 use utf8_own_stage::Coder;
@@ -30,7 +30,7 @@ pub struct ComeBack {
 }
 
 /// What a text is coded as.
-fn code(text: &[u8], table: &Table<'_>, coded: &mut Buffer) -> usize
+fn code(text: &[u8], table: &OwnTable<'_>, coded: &mut Buffer) -> usize
     requires { Good table.now }
 {
     let mut room = [0; 64];
@@ -70,7 +70,7 @@ pub fn back_of(alloc: Global, text: &str) -> Result<ComeBack, AllocError> {
     let mut wide = SliceVec::over(&mut wide_cells);
     let reported = choose(ranked.as_slice(), &mut narrow, &mut wide);
     fill_slots(narrow.as_slice(), wide.as_slice(), &mut slots);
-    let table = Table::chosen(
+    let table = OwnTable::chosen(
         ranked.as_slice(),
         narrow.as_slice(),
         wide.as_slice(),

@@ -2,8 +2,8 @@
 use Rattle.std.proofs.Common.{◌≡◌, ℕ, zero, suc, ◌+◌, ◌-◌, List, [], ◌∷◌, Bool, true, false, not, ◌==◌, ◌&&◌, ◌||◌, nat_lt, if◌then◌else◌, Option, None, Some, IfSome, slice_get, refl, sym, ◌∙◌, ap, subst, arith}
 use Rattle.std.proofs.lemmas.Bool.Decides.{nat_tests}
 use Rattle.std.proofs.Math.Utf8.{scalar}
-use Rattle.utf8_characters.specs.declared.table.Table.{Table}
-use Rattle.utf8_characters.specs.declared.table.Table.TheVariants.{English, Latin, Cyrillic, Greek, Latin1}
+use Rattle.utf8_characters.specs.declared.table.FixedTable.{FixedTable}
+use Rattle.utf8_characters.specs.declared.table.FixedTable.TheVariants.{English, Latin, Cyrillic, Greek, Latin1}
 use Rattle.utf8_characters.specs.OneCell.{is_one_cell}
 use Rattle.utf8_characters.specs.Tables.{characters, if_any, character_of, byte_in, byte_of}
 
@@ -25,7 +25,7 @@ abbrev all_scalar : List ℕ → Bool
 all_scalar [] = true
 all_scalar (x ∷ xs) = scalar x && all_scalar xs
 
-tables_differ : (t : Table) → all_differ (characters t) ≡ true
+tables_differ : (t : FixedTable) → all_differ (characters t) ≡ true
 unfolding characters
 tables_differ English = refl
 tables_differ Latin = refl
@@ -33,7 +33,7 @@ tables_differ Cyrillic = refl
 tables_differ Greek = refl
 tables_differ Latin1 = refl
 
-tables_fit : (t : Table) → all_fit (characters t) ≡ true
+tables_fit : (t : FixedTable) → all_fit (characters t) ≡ true
 unfolding characters
 tables_fit English = refl
 tables_fit Latin = refl
@@ -41,7 +41,7 @@ tables_fit Cyrillic = refl
 tables_fit Greek = refl
 tables_fit Latin1 = refl
 
-tables_scalar : (t : Table) → all_scalar (characters t) ≡ true
+tables_scalar : (t : FixedTable) → all_scalar (characters t) ≡ true
 unfolding characters
 tables_scalar English = refl
 tables_scalar Latin = refl
@@ -116,20 +116,20 @@ found : (k : ℕ) (xs : List ℕ) (c b : ℕ) → byte_in k xs c ≡ Some b → 
 found k [] c b p = absurd (let no : None ≡ Some b = p in cc)
 found k (x ∷ xs) c b p = found_by (x == c) k x xs c b refl p (found (k + 1) xs c b)
 
-char_at : (t : Table) (i c : ℕ) → slice_get (characters t) i ≡ Some c → (c == 0) ≡ false → character_of t (128 + i) ≡ Some c
+char_at : (t : FixedTable) (i c : ℕ) → slice_get (characters t) i ≡ Some c → (c == 0) ≡ false → character_of t (128 + i) ≡ Some c
 char_at t i c p e =
     let sub : 128 + i - 128 ≡ i = omega arith in
     if_not (nat_lt (128 + i) 128) None (if_any (slice_get (characters t) (128 + i - 128))) (not_below i)
     ∙ ap (λ (n : ℕ). if_any (slice_get (characters t) n)) sub ∙ ap if_any p ∙ if_not (c == 0) None (Some c) e
 
-character_by : (z : Bool) (t : Table) (c b : ℕ) → (c == 0) ≡ z → (if z then None else byte_in 128 (characters t) c) ≡ Some b → character_of t b ≡ Some c
+character_by : (z : Bool) (t : FixedTable) (c b : ℕ) → (c == 0) ≡ z → (if z then None else byte_in 128 (characters t) c) ≡ Some b → character_of t b ≡ Some c
 character_by true t c b e p = absurd (let no : None ≡ Some b = p in cc)
 character_by false t c b e p =
     let f = found 128 (characters t) c b p in
     let P : ℕ → Type 0 = λ n. character_of t n ≡ Some c in
     subst P (sym f.is) (char_at t f.at c f.there e)
 
-pub character_back : (t : Table) (c b : ℕ) → byte_of t c ≡ Some b → character_of t b ≡ Some c
+pub character_back : (t : FixedTable) (c b : ℕ) → byte_of t c ≡ Some b → character_of t b ≡ Some c
 character_back t c b p = character_by (c == 0) t c b refl p
 
 -- ---- a character has one place
@@ -165,7 +165,7 @@ fits_at (x ∷ xs) zero c fit some p =
     or_second (c == 0) (is_one_cell c) some (subst P (one_of x c p) (and_first ((x == 0) || is_one_cell x) (all_fit xs) fit))
 fits_at (x ∷ xs) (suc i) c fit some p = fits_at xs i c (and_second ((x == 0) || is_one_cell x) (all_fit xs) fit) some p
 
-record IsAt (t : Table) (b c : ℕ) : Type 0 where
+record IsAt (t : FixedTable) (b c : ℕ) : Type 0 where
   high : nat_lt b 128 ≡ false
   there : slice_get (characters t) (b - 128) ≡ Some c
   some : (c == 0) ≡ false
@@ -175,23 +175,23 @@ nul_by true y c e p = absurd (let no : None ≡ Some c = p in cc)
 nul_by false y c e p =
     let q : y ≡ c = one_of y c p in let P : ℕ → Type 0 = λ n. (n == 0) ≡ false in (q, subst P q e)
 
-at_by : (t : Table) (b c : ℕ) (x : Bool) (o : Option ℕ) → nat_lt b 128 ≡ x → slice_get (characters t) (b - 128) ≡ o
+at_by : (t : FixedTable) (b c : ℕ) (x : Bool) (o : Option ℕ) → nat_lt b 128 ≡ x → slice_get (characters t) (b - 128) ≡ o
     → (if x then None else if_any o) ≡ Some c → IsAt t b c
 at_by t b c true o h e p = absurd (let no : None ≡ Some c = p in cc)
 at_by t b c false None h e p = absurd (let no : None ≡ Some c = p in cc)
 at_by t b c false (Some y) h e p =
     let q = nul_by (y == 0) y c refl p in record { high = h; there = e ∙ ap Some q.0; some = q.1 }
 
-is_at : (t : Table) (b c : ℕ) → character_of t b ≡ Some c → IsAt t b c
+is_at : (t : FixedTable) (b c : ℕ) → character_of t b ≡ Some c → IsAt t b c
 is_at t b c p = at_by t b c (nat_lt b 128) (slice_get (characters t) (b - 128)) refl refl p
 
-pub byte_back : (t : Table) (b c : ℕ) → character_of t b ≡ Some c → byte_of t c ≡ Some b
+pub byte_back : (t : FixedTable) (b c : ℕ) → character_of t b ≡ Some c → byte_of t c ≡ Some b
 byte_back t b c p =
     let f = is_at t b c p in
     if_not (c == 0) None (byte_in 128 (characters t) c) f.some
     ∙ first_at 128 (characters t) (b - 128) c (tables_differ t) f.some f.there ∙ ap Some (not_low b f.high)
 
-pub character_fits : (t : Table) (b c : ℕ) → character_of t b ≡ Some c → is_one_cell c ≡ true
+pub character_fits : (t : FixedTable) (b c : ℕ) → character_of t b ≡ Some c → is_one_cell c ≡ true
 character_fits t b c p = let f = is_at t b c p in fits_at (characters t) (b - 128) c (tables_fit t) f.some f.there
 
 scalar_at : (xs : List ℕ) (i c : ℕ) → all_scalar xs ≡ true → slice_get xs i ≡ Some c → scalar c ≡ true
@@ -200,19 +200,19 @@ scalar_at (x ∷ xs) zero c are p =
     let P : ℕ → Type 0 = λ n. scalar n ≡ true in subst P (one_of x c p) (and_first (scalar x) (all_scalar xs) are)
 scalar_at (x ∷ xs) (suc i) c are p = scalar_at xs i c (and_second (scalar x) (all_scalar xs) are) p
 
-pub character_scalar : (t : Table) (b c : ℕ) → character_of t b ≡ Some c → scalar c ≡ true
+pub character_scalar : (t : FixedTable) (b c : ℕ) → character_of t b ≡ Some c → scalar c ≡ true
 character_scalar t b c p = scalar_at (characters t) (b - 128) c (tables_scalar t) (is_at t b c p).there
 
 -- ---- of what a call answers
 
-pub answer_back : (t : Table) (b : ℕ) (r : Option ℕ) → r ≡ character_of t b → IfSome r (λ c. byte_of t c ≡ Some b)
+pub answer_back : (t : FixedTable) (b : ℕ) (r : Option ℕ) → r ≡ character_of t b → IfSome r (λ c. byte_of t c ≡ Some b)
 answer_back t b None e = tt
 answer_back t b (Some c) e = byte_back t b c (sym e)
 
-pub answer_fits : (t : Table) (b : ℕ) (r : Option ℕ) → r ≡ character_of t b → IfSome r (λ c. is_one_cell c ≡ true)
+pub answer_fits : (t : FixedTable) (b : ℕ) (r : Option ℕ) → r ≡ character_of t b → IfSome r (λ c. is_one_cell c ≡ true)
 answer_fits t b None e = tt
 answer_fits t b (Some c) e = character_fits t b c (sym e)
 
-pub byte_answer_back : (t : Table) (c : ℕ) (r : Option ℕ) → r ≡ byte_of t c → IfSome r (λ b. character_of t b ≡ Some c)
+pub byte_answer_back : (t : FixedTable) (c : ℕ) (r : Option ℕ) → r ≡ byte_of t c → IfSome r (λ b. character_of t b ≡ Some c)
 byte_answer_back t c None e = tt
 byte_answer_back t c (Some b) e = character_back t c b (sym e)

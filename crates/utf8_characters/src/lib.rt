@@ -8,4 +8,4 @@
 mod table;
 mod tables;
 
-pub use table::Table;
+pub use table::FixedTable;

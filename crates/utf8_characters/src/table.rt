@@ -7,7 +7,7 @@ use super::tables::{CYRILLIC, ENGLISH, GREEK, LATIN, LATIN_1};
 
 /// A table of characters of one cell each, for bytes from 128 on.
 #[derive(Clone, Copy, Debug, PartialEq, Eq)]
-pub enum Table {
+pub enum FixedTable {
     /// Signs, and what ISO 8859-1 has.
     English,
     /// Letters of languages from Czech to Turkish, and signs.
@@ -34,24 +34,24 @@ fn byte_in(characters: &[char; 128], code: u32) -> Option<u8>
     None
 }
 
-impl Table {
+impl FixedTable {
     /// The table of a name.
     ///
-    /// Proved: A table's name leads to it. (`Table::named`, `Table::name`)
-    pub fn named(name: &str) -> Option<Table>
+    /// Proved: A table's name leads to it. (`FixedTable::named`, `FixedTable::name`)
+    pub fn named(name: &str) -> Option<FixedTable>
         ensures { result ≡ table_named name.now }
     {
         let bytes = name.as_bytes();
         if bytes == b"english".as_slice() {
-            Some(Table::English)
+            Some(FixedTable::English)
         } else if bytes == b"latin".as_slice() {
-            Some(Table::Latin)
+            Some(FixedTable::Latin)
         } else if bytes == b"cyrillic".as_slice() {
-            Some(Table::Cyrillic)
+            Some(FixedTable::Cyrillic)
         } else if bytes == b"greek".as_slice() {
-            Some(Table::Greek)
+            Some(FixedTable::Greek)
         } else if bytes == b"latin1".as_slice() {
-            Some(Table::Latin1)
+            Some(FixedTable::Latin1)
         } else {
             None
         }
@@ -63,11 +63,11 @@ impl Table {
         ensures back { table_named result.now ≡ Some self }
     {
         match self {
-            Table::English => "english",
-            Table::Latin => "latin",
-            Table::Cyrillic => "cyrillic",
-            Table::Greek => "greek",
-            Table::Latin1 => "latin1",
+            FixedTable::English => "english",
+            FixedTable::Latin => "latin",
+            FixedTable::Cyrillic => "cyrillic",
+            FixedTable::Greek => "greek",
+            FixedTable::Latin1 => "latin1",
         }
     }
 
@@ -77,11 +77,11 @@ impl Table {
         ensures { result.now ≡ characters self }
     {
         match self {
-            Table::English => &ENGLISH,
-            Table::Latin => &LATIN,
-            Table::Cyrillic => &CYRILLIC,
-            Table::Greek => &GREEK,
-            Table::Latin1 => &LATIN_1,
+            FixedTable::English => &ENGLISH,
+            FixedTable::Latin => &LATIN,
+            FixedTable::Cyrillic => &CYRILLIC,
+            FixedTable::Greek => &GREEK,
+            FixedTable::Latin1 => &LATIN_1,
         }
     }
 
@@ -124,7 +124,7 @@ impl Table {
     /// The byte of a character.
     ///
     /// Proved: A table is one to one: the byte of a character has that character, and the character of a byte has
-    /// that byte. (`Table::byte`, `Table::character`)
+    /// that byte. (`FixedTable::byte`, `FixedTable::character`)
     pub fn byte(self, code: u32) -> Option<u8>
         ensures value { result ≡ byte_of self code }
         // No other character is that byte's.

@@ -1,7 +1,7 @@
 -- What the words of utf8 ask for comes about.
 use Rattle.std.proofs.Common.{◌≡◌, ℕ, List, drop, Bool, Option, Result, Ok, refl, subst}
 use Rattle.nr_units.specs.Failures.{SinkFailures}
-use Rattle.utf8_characters.specs.declared.table.Table.{Table}
+use Rattle.utf8_characters.specs.declared.table.FixedTable.{FixedTable}
 use Rattle.filters.specs.Disk.{Asks, Opening}
 use Rattle.filters.specs.Program.{Comes, IsRun, Puts, TurnsNames}
 use Rattle.filters.specs.Program as programs
@@ -33,7 +33,7 @@ by-own may_come asked asked' held new writes writes' passed_on words answer name
 
 -- by a fixed table
 pub by-fixed : (may_come : List ℕ → Opening → Type 0) (asked asked' : Option (List (List ℕ))) (held new : Option (List ℕ)) (writes writes' : SinkFailures)
-    (passed_on : Bool) (words : List (List ℕ)) (answer : Result Job Wrong) (named : Named) (table : Table) (escapes : Bool) (files : ℕ) (names : List (List ℕ))
+    (passed_on : Bool) (words : List (List ℕ)) (answer : Result Job Wrong) (named : Named) (table : FixedTable) (escapes : Bool) (files : ℕ) (names : List (List ℕ))
     (ending : Ending) → Ok (Turn named escapes files) ≡ answer → named ≡ Fixed table → names ≡ drop files words
     → TurnsNames may_come asked asked' held new writes writes' passed_on (utf8 table escapes) names ending
     → IsRun (AsksFor words answer) may_come asked asked' held new writes writes' passed_on ending

@@ -1,7 +1,7 @@
 -- The name of the table that a page takes.
 use Rattle.std.specs.Prelude.{◌≡◌, ℕ, List, [], ◌∷◌, ◌++◌, take, Bool, true, false, not, ◌==◌, ◌&&◌, ◌||◌, if◌then◌else◌, Option, None, Some, ⊤, codes}
 use Rattle.std.specs.List.{starts_with}
-use Rattle.utf8_characters.specs.declared.table.Table.{Table}
+use Rattle.utf8_characters.specs.declared.table.FixedTable.{FixedTable}
 use Rattle.utf8_characters.specs.Tables.{name_of}
 use Rattle.utf8_converter.specs.Choosing.{chosen, looked_at}
 use Rattle.utf8_own_page.specs.Needing.{has_all, may_need_own}
@@ -25,11 +25,11 @@ has_tables page = has_table_from true page
 -- ---- the choice, by the first MiB of a page
 
 -- the fixed table
-abbrev pub fixed_for : List ℕ → Table
+abbrev pub fixed_for : List ℕ → FixedTable
 fixed_for prefix = chosen (take looked_at prefix)
 
 -- it lacks some of what the page prints, and of what its frames are drawn with
-abbrev pub lacks : Table → List ℕ → Bool
+abbrev pub lacks : FixedTable → List ℕ → Bool
 lacks fixed prefix = not (has_all fixed (counts_in (has_tables prefix) prefix))
 
 -- a page that is no standard input, and is beyond ASCII or names such characters, is asked whether it does

@@ -1,7 +1,7 @@
 -- What utf8 makes of texts, and what its words ask for.
 use Rattle.std.specs.Prelude.{◌≡◌, ℕ, List, [], ◌∷◌, drop, get_or, Bool, true, false, Some, Result, Ok, Err, codes}
 use Rattle.std.specs.Borrow.{Bor}
-use Rattle.utf8_characters.specs.declared.table.Table.{Table}
+use Rattle.utf8_characters.specs.declared.table.FixedTable.{FixedTable}
 use Rattle.utf8_converter.specs.Cells.{converted}
 use Rattle.utf8_converter.specs.Reading.{fed, first_reader}
 use Rattle.document_stages.specs.declared.running.RunEnd.{RunEnd}
@@ -24,7 +24,7 @@ use Rattle.utf8_command.specs.declared.arguments.Wrong.{Wrong}
 use Rattle.utf8_command.specs.declared.arguments.Wrong.TheVariants.{UnknownOption, UnknownTable, NoTable, SeveralFiles}
 
 -- A text is turned into UTF-8, bytes from 128 on by a table, with escape sequences or without; no text is complained of.
-abbrev pub utf8 : Table → Bool → Filter
+abbrev pub utf8 : FixedTable → Bool → Filter
 utf8 table escapes = record {
   text_of = λ bytes. bytes;
   whole = converted table escapes;

@@ -14,7 +14,7 @@ use nr_units::sink::Sink;
 use nr_vectors::slice_vec::SliceVec;
 use std::alloc::{AllocError, Global};
 use std::io::Read;
-use utf8_characters::Table;
+use utf8_characters::FixedTable;
 use utf8_converter::{CHARACTERS, LOOKED_AT, choose};
 use utf8_own_page::{has_all, may_need_own};
 
@@ -33,7 +33,7 @@ fn has_tables(page: &[u8]) -> bool
 }
 
 /// The fixed table that a page takes, by its first bytes.
-fn fixed_for(alloc: Global, prefix: &[u8]) -> Result<Table, AllocError>
+fn fixed_for(alloc: Global, prefix: &[u8]) -> Result<FixedTable, AllocError>
     ensures { IfOk result (λ table. table ≡ specs.fixed_for prefix.now) }
 {
     let mut page = vec![in alloc; 0u8; LOOKED_AT]?;
@@ -55,7 +55,7 @@ fn asks_for_own(name: &str, prefix: &[u8]) -> bool
 }
 
 /// Whether it does: this fixed one lacks some of what it prints, and of what its frames are drawn with.
-fn lacks(alloc: Global, fixed: Table, prefix: &[u8]) -> Result<bool, AllocError>
+fn lacks(alloc: Global, fixed: FixedTable, prefix: &[u8]) -> Result<bool, AllocError>
     ensures { LookIsShort prefix.now → IfOk result (λ lacks. lacks ≡ specs.lacks fixed prefix.now) }
 {
     let counts = count_prefix(alloc, has_tables(prefix), prefix)?;

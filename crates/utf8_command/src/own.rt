@@ -14,19 +14,19 @@ use filters_own::look_at;
 use nr_units::buffered::Buffered;
 use nr_units::sink::Sink;
 use std::io::Read;
-use utf8_own_characters::Table;
+use utf8_own_characters::OwnTable;
 use utf8_own_sink::Decoder;
 
 /// Turns texts in the bytes of a table.
 #[derive(Drop)]
-struct OwnTurner<'a> {
-    table: &'a Table<'a>,
+struct OwnConverter<'a> {
+    table: &'a OwnTable<'a>,
     escapes: bool,
     input: Vec<u8>,
     ghost good: { Good table.now },
 }
 
-impl Turns for OwnTurner<'_> {
+impl Turns for OwnConverter<'_> {
     ghost use Rattle.utf8_command.specs.Converting.{own};
 
     ghost filter = { λ turner. own turner.escapes turner.table.now };
@@ -70,7 +70,7 @@ pub(crate) fn turn_own<'a, P: Paths, I: Read + Copy + Drop, W: Sink, E: Sink>(
         return (Ending::OutOfMemory, output);
     };
     let table = cells.table();
-    let mut turner = OwnTurner {
+    let mut turner = OwnConverter {
         table: &table,
         escapes,
         input,

@@ -17,7 +17,7 @@ use nr_units::buffered::Buffered;
 use nr_units::sink::Sink;
 use nr_units::source::Fault;
 use std::io::Read;
-use utf8_characters::Table;
+use utf8_characters::FixedTable;
 use utf8_converter::{RunEnd, convert};
 
 /// What `--version` prints: that of the file VERSION.
@@ -116,7 +116,7 @@ fn put_version<'a, W: Sink>(output: W) -> (Ending<'a>, W)
 
 /// Turns the files of these names, or standard input, and reports how many bytes were dropped.
 fn turn_files<'a, P: Paths, I: Read + Copy + Drop, W: Sink, E: Sink>(
-    how: (Table, bool),
+    how: (FixedTable, bool),
     names: &[&'a str],
     disk: &mut Disk<P, I>,
     output: W,
@@ -131,7 +131,7 @@ fn turn_files<'a, P: Paths, I: Read + Copy + Drop, W: Sink, E: Sink>(
     let Ok(buffers) = Buffers::new(disk.alloc) else {
         return (Ending::OutOfMemory, output);
     };
-    let mut turner = Turner {
+    let mut turner = Converter {
         how,
         buffers,
         strays: 0,
@@ -155,13 +155,13 @@ fn put_dropped<E: Sink>(strays: u64, errors: &mut E) -> Result<(), Fault> {
 
 /// Turns texts, and counts the bytes that are dropped.
 #[derive(Drop)]
-struct Turner {
-    how: (Table, bool),
+struct Converter {
+    how: (FixedTable, bool),
     buffers: Buffers,
     strays: u64,
 }
 
-impl Turns for Turner {
+impl Turns for Converter {
     ghost use Rattle.utf8_command.specs.Converting.{utf8};
 
     ghost filter = { λ turner. utf8 turner.how.0 turner.how.1 };

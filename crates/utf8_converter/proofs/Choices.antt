@@ -8,8 +8,8 @@ use Rattle.std.proofs.lemmas.Grind.{get_or-set_at}
 use Rattle.std.proofs.Math.Seq.{take-append_seam}
 use Rattle.nr_units.specs.Source.{Supply}
 use Rattle.nr_units.specs.declared.source.Fault.{Fault}
-use Rattle.utf8_characters.specs.declared.table.Table.{Table}
-use Rattle.utf8_characters.specs.declared.table.Table.TheVariants.{English, Latin, Cyrillic, Greek, Latin1}
+use Rattle.utf8_characters.specs.declared.table.FixedTable.{FixedTable}
+use Rattle.utf8_characters.specs.declared.table.FixedTable.TheVariants.{English, Latin, Cyrillic, Greek, Latin1}
 use Rattle.utf8_characters.specs.Tables.{characters}
 use Rattle.utf8_converter.specs.Choosing.{one_if, character_at, occurrences, covered, better, if_any, fullest, chosen, IsChoice, IsBest, Counts, covered_by, better_by, fullest_by, chosen_by, Chooses, IsPrefix}
 
@@ -74,7 +74,7 @@ abbrev all_low : List ℕ → Bool
 all_low [] = true
 all_low (x ∷ xs) = nat_lt x 10240 && all_low xs
 
-tables_low : (t : Table) → all_low (characters t) ≡ true
+tables_low : (t : FixedTable) → all_low (characters t) ≡ true
 unfolding characters
 tables_low English = refl
 tables_low Latin = refl
@@ -105,10 +105,10 @@ sum_same page counts (x ∷ xs) h long low =
     ∙ ap (λ (n : ℕ). occurrences page (length page) x + n) rest
     ∙ sym (sum_by-cons (λ (c : ℕ). occurrences page (length page) c) x xs)
 
-covered_same : (page counts : List ℕ) → Counts page (length page) counts → length counts ≡ 10240 → (t : Table) → covered_by counts t ≡ covered page t
+covered_same : (page counts : List ℕ) → Counts page (length page) counts → length counts ≡ 10240 → (t : FixedTable) → covered_by counts t ≡ covered page t
 covered_same page counts h long t = sum_same page counts (characters t) h long (tables_low t)
 
-better_same : (page counts : List ℕ) → Counts page (length page) counts → length counts ≡ 10240 → (s t : Table) → better_by counts s t ≡ better page s t
+better_same : (page counts : List ℕ) → Counts page (length page) counts → length counts ≡ 10240 → (s t : FixedTable) → better_by counts s t ≡ better page s t
 better_same page counts h long s t =
     ap (λ (n : ℕ). if nat_lt n (covered_by counts t) then t else s) (covered_same page counts h long s)
     ∙ ap (λ (n : ℕ). if nat_lt (covered page s) n then t else s) (covered_same page counts h long t)
@@ -117,24 +117,24 @@ fullest_same : (page counts : List ℕ) → Counts page (length page) counts →
 fullest_same page counts h long =
     let european = better_same page counts h long English Latin in
     let second : better_by counts (better_by counts English Latin) Cyrillic ≡ better page (better page English Latin) Cyrillic =
-    ap (λ (t : Table). better_by counts t Cyrillic) european ∙ better_same page counts h long (better page English Latin) Cyrillic in
-    ap (λ (t : Table). better_by counts t Greek) second ∙ better_same page counts h long (better page (better page English Latin) Cyrillic) Greek
+    ap (λ (t : FixedTable). better_by counts t Cyrillic) european ∙ better_same page counts h long (better page English Latin) Cyrillic in
+    ap (λ (t : FixedTable). better_by counts t Greek) second ∙ better_same page counts h long (better page (better page English Latin) Cyrillic) Greek
 
 pub chosen-same : (page counts : List ℕ) → Counts page (length page) counts → length counts ≡ 10240 → chosen_by counts ≡ chosen page
 chosen-same page counts h long =
-    ap (λ (t : Table). if_any (covered_by counts t) t) (fullest_same page counts h long)
+    ap (λ (t : FixedTable). if_any (covered_by counts t) t) (fullest_same page counts h long)
     ∙ ap (λ (n : ℕ). if_any n (fullest page)) (covered_same page counts h long (fullest page))
 
 -- ---- none has more
 
-more_by : (x : Bool) (f : Table → ℕ) (s t : Table) → nat_lt (f s) (f t) ≡ x → (f s ≤ f (if x then t else s)) × (f t ≤ f (if x then t else s))
+more_by : (x : Bool) (f : FixedTable → ℕ) (s t : FixedTable) → nat_lt (f s) (f t) ≡ x → (f s ≤ f (if x then t else s)) × (f t ≤ f (if x then t else s))
 more_by true f s t e = (grind (arith, nat_tests), omega arith)
 more_by false f s t e = (omega arith, grind (arith, nat_tests))
 
-more : (page : List ℕ) (s t : Table) → (covered page s ≤ covered page (better page s t)) × (covered page t ≤ covered page (better page s t))
+more : (page : List ℕ) (s t : FixedTable) → (covered page s ≤ covered page (better page s t)) × (covered page t ≤ covered page (better page s t))
 more page s t = more_by (nat_lt (covered page s) (covered page t)) (covered page) s t refl
 
-best_by : (page : List ℕ) (n : ℕ) (other : Table) → IsChoice other → covered page English ≤ n → covered page Latin ≤ n → covered page Cyrillic ≤ n → covered page Greek ≤ n
+best_by : (page : List ℕ) (n : ℕ) (other : FixedTable) → IsChoice other → covered page English ≤ n → covered page Latin ≤ n → covered page Cyrillic ≤ n → covered page Greek ≤ n
     → covered page other ≤ n
 best_by page n English is e l c g = e
 best_by page n Latin is e l c g = l
@@ -154,7 +154,7 @@ fullest_best page other is =
 zero_is : (n : ℕ) → (n == 0) ≡ true → n ≡ 0
 zero_is n p = grind (arith, nat_tests)
 
-if_best : (x : Bool) (page : List ℕ) (t : Table) → (covered page t == 0) ≡ x → IsBest page t → IsBest page (if x then English else t)
+if_best : (x : Bool) (page : List ℕ) (t : FixedTable) → (covered page t == 0) ≡ x → IsBest page t → IsBest page (if x then English else t)
 if_best true page t none best other is =
     let few = best other is in let zero = zero_is (covered page t) none in omega (arith, few, zero)
 if_best false page t none best other is = best other is
@@ -175,12 +175,12 @@ pub prefix-is : (q : Supply) (new : Option Supply) (room : ℕ) (items : List �
 prefix-is q None room items within f = absurd f.came
 prefix-is q (Some t) room items within f = prefix_by q t room items within f.came f.whole
 
-pub chooses : (a b : Option Supply) (room : ℕ) (items counts : List ℕ) (table : Table) → room ≡ 65536 → length items ≤ room → IsPrefix a b room items
+pub chooses : (a b : Option Supply) (room : ℕ) (items counts : List ℕ) (table : FixedTable) → room ≡ 65536 → length items ≤ room → IsPrefix a b room items
     → Counts items (length items) counts → length counts ≡ 10240 → table ≡ chosen_by counts → Chooses {E = Fault} a (Ok table)
 chooses None b room items counts table whole within f h long is = tt
 chooses (Some q) b room items counts table whole within f h long is =
     let prefix : take 65536 q.bytes ≡ items = ap (λ (n : ℕ). take n q.bytes) (sym whole) ∙ prefix-is q b room items within f in
     let same : table ≡ chosen items = is ∙ chosen-same items counts h long in
     let P : List ℕ → Type 0 = λ page. (table ≡ chosen page) × IsBest page table in
-    let Q : Table → Type 0 = λ t. IsBest items t in
+    let Q : FixedTable → Type 0 = λ t. IsBest items t in
     subst P (sym prefix) (same, subst Q (sym same) (chosen-best items))

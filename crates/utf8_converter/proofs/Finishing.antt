@@ -7,8 +7,8 @@ use Rattle.nr_units.specs.Failures.{SinkFailures, next_count, put_counted}
 use Rattle.nr_units.specs.Sink.{AppendsPrefix}
 use Rattle.nr_units.specs.declared.source.Fault.{Fault}
 use Rattle.document_stages.specs.Running.{PrefixAtErr, at_most}
-use Rattle.utf8_characters.specs.declared.table.Table.{Table}
-use Rattle.utf8_characters.specs.declared.table.Table.TheVariants.{English, Latin, Cyrillic, Greek, Latin1}
+use Rattle.utf8_characters.specs.declared.table.FixedTable.{FixedTable}
+use Rattle.utf8_characters.specs.declared.table.FixedTable.TheVariants.{English, Latin, Cyrillic, Greek, Latin1}
 use Rattle.utf8_converter.specs.declared.reader.Reader.{Reader}
 use Rattle.utf8_converter.specs.Cells.{converted, strays_of}
 use Rattle.utf8_converter.specs.Reading.{ended, fed, first_reader}
@@ -101,10 +101,10 @@ Shown-broke m came a f br =
 
 -- ---- what it holds says how it was made
 
-abbrev table_numbered : ℕ → Table
+abbrev table_numbered : ℕ → FixedTable
 table_numbered n = if n == 1 then English else if n == 2 then Latin else if n == 3 then Cyrillic else if n == 4 then Greek else Latin1
 
-numbered : (t : Table) → table_numbered (number_of t) ≡ t
+numbered : (t : FixedTable) → table_numbered (number_of t) ≡ t
 numbered English = refl
 numbered Latin = refl
 numbered Cyrillic = refl
@@ -144,10 +144,10 @@ pub record SameMaking (m n : Making) (xs ys : List ℕ) : Type 0 where
   pub making : m ≡ n
   pub rest : xs ≡ ys
 
-abbrev making : Table → Bool → Option (List ℕ) → ℕ → Making
+abbrev making : FixedTable → Bool → Option (List ℕ) → ℕ → Making
 making table escapes begun failed = record { table = table; escapes = escapes; begun = begun; failed = failed }
 
-making_eq : (t u : Table) (e f : Bool) (a b : Option (List ℕ)) (i j : ℕ) → t ≡ u → e ≡ f → a ≡ b → i ≡ j → making t e a i ≡ making u f b j
+making_eq : (t u : FixedTable) (e f : Bool) (a b : Option (List ℕ)) (i j : ℕ) → t ≡ u → e ≡ f → a ≡ b → i ≡ j → making t e a i ≡ making u f b j
 making_eq t u e f a b i j p q r s = cc
 
 pub same-making : (m n : Making) (xs ys : List ℕ) → made_of m ++ xs ≡ made_of n ++ ys → SameMaking m n xs ys

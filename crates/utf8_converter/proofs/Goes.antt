@@ -4,7 +4,7 @@ use Rattle.std.proofs.lemmas.List.{get_or-take, length-append, length-take-le, t
 use Rattle.std.proofs.Math.Seq.{take-add}
 use Rattle.std.proofs.lemmas.Bool.Decides.{nat_tests}
 use Rattle.nr_vectors.specs.declared.cell.Look.TheVariants.{Plain}
-use Rattle.utf8_characters.specs.declared.table.Table.{Table}
+use Rattle.utf8_characters.specs.declared.table.FixedTable.{FixedTable}
 use Rattle.utf8_converter.specs.declared.reader.Half.{Half}
 use Rattle.utf8_converter.specs.declared.reader.Half.TheVariants.{Nothing}
 use Rattle.utf8_converter.specs.declared.reader.Reader.{Reader}
@@ -120,7 +120,7 @@ Goes-half r s bs n old new from end g = Makes-half r s (take n bs) g.out g.makes
 
 pub Goes-serves : (r s : Reader) (bs : List ℕ) (n : ℕ) (old new : List ℕ) (from end : ℕ) (p : Spelling) → Serves p r → Goes r s bs n old from new end → Serves p s
 Goes-serves r s bs n old new from end p serves g =
-    let P : Table → Type 0 = λ t. Spells t 256 p.all p.whole in
+    let P : FixedTable → Type 0 = λ t. Spells t 256 p.all p.whole in
     subst P (sym (Goes-table r s bs n old new from end g)) serves
 
 low : (b : ℕ) → b ≤ 32 → nat_lt 32 b ≡ false
@@ -140,13 +140,13 @@ Goes-rest r s u bs n m old mid new from to end none f g =
     let P : List ℕ → Type 0 = λ xs. Goes s u xs m mid to new end in
     Goes-then r s u bs n m old mid new from to end (Goes-half r s bs n old mid from to f) f (subst P (rest-of bs n) g)
 
-pub low-hidden : (t : Table) (b : ℕ) → b ≤ 32 → shows t b ≡ false
+pub low-hidden : (t : FixedTable) (b : ℕ) → b ≤ 32 → shows t b ≡ false
 low-hidden t b l = low_by (nat_lt 32 b) (goes_out t b) (low b l)
 
 pub Puts-alone : (b : ℕ) (r s : Reader) (old mid new : List ℕ) (from to end : ℕ) → goes_out r.table b ≡ true → s ≡ turned Plain r → Puts old from mid to (turning r.way Plain) → Puts mid to new end (byte_of s.table b)
     → Puts old from new end (turning r.way Plain ++ text r.table b)
 Puts-alone b r s old mid new from to end goes is first last =
-    let P : Table → Type 0 = λ t. Puts mid to new end (byte_of t b) in
+    let P : FixedTable → Type 0 = λ t. Puts mid to new end (byte_of t b) in
     let Q : List ℕ → Type 0 = λ xs. Puts mid to new end xs in
     Puts-then old mid new (turning r.way Plain) (text r.table b) from to end first
     (subst Q (byte-text r.table b (goes-no_back r.table b goes)) (subst P (ap (λ (q : Reader). q.table) is) last))
@@ -186,8 +186,8 @@ prefixes r0 r s (b ∷ rest) bs n room mid new begin end m is some begin_is fill
     let held = Makes-held r s b rest g.out half (subst P is g.makes) in
     let table = Goes-table r s bs n mid new begin end g in
     let H = half_after r.table (b ∷ rest) in
-    let same : half_after s.table (take n bs) ≡ H = ap (λ (t : Table). half_after t (take n bs)) table ∙ ap (λ (ys : List ℕ). half_after r.table ys) is in
-    let text_same : half_text s.table (half_after s.table (take n bs)) ≡ half_text r.table H = ap (λ (t : Table). half_text t (half_after s.table (take n bs))) table ∙ ap (λ (h : Half). half_text r.table h) same in
+    let same : half_after s.table (take n bs) ≡ H = ap (λ (t : FixedTable). half_after t (take n bs)) table ∙ ap (λ (ys : List ℕ). half_after r.table ys) is in
+    let text_same : half_text s.table (half_after s.table (take n bs)) ≡ half_text r.table H = ap (λ (t : FixedTable). half_text t (half_after s.table (take n bs))) table ∙ ap (λ (h : Half). half_text r.table h) same in
     let all : take end new ≡ (B ++ held.prefix) ++ half_text r.table H =
     g.put ∙ ap (λ (ys : List ℕ). ys ++ g.out) fills.put ∙ ap (λ (ys : List ℕ). B ++ ys) held.split ∙ sym (append_assoc B held.prefix (half_text r.table H)) in
     let cut = cut_off new (B ++ held.prefix) (half_text r.table H) end l all in

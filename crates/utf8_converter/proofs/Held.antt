@@ -2,7 +2,7 @@
 use Prim.Native.Char.{code}
 use Rattle.std.proofs.Common.{◌≡◌, ℕ, suc, ◌+◌, ◌-◌, ◌<◌, List, [], ◌∷◌, ◌++◌, length, take, get_or, Bool, true, false, not, ◌==◌, ◌&&◌, ◌||◌, nat_lt, if◌then◌else◌, refl, sym, subst, ap, ◌∙◌, append-nil, arith}
 use Rattle.std.proofs.lemmas.Bool.Decides.{nat_tests}
-use Rattle.utf8_characters.specs.declared.table.Table.{Table}
+use Rattle.utf8_characters.specs.declared.table.FixedTable.{FixedTable}
 use Rattle.utf8_converter.specs.declared.reader.Half.{Half}
 use Rattle.utf8_converter.specs.declared.reader.Half.TheVariants.{Nothing, Byte, Backspaced}
 use Rattle.utf8_converter.specs.declared.reader.Reader.{Reader}
@@ -16,7 +16,7 @@ use Rattle.utf8_converter.proofs.Spelled.{byte-text}
 
 -- ---- the table stays
 
-table_if : (x : Bool) (t u : Emitted) (table : Table) → t.reader.table ≡ table → u.reader.table ≡ table → (if x then t else u).reader.table ≡ table
+table_if : (x : Bool) (t u : Emitted) (table : FixedTable) → t.reader.table ≡ table → u.reader.table ≡ table → (if x then t else u).reader.table ≡ table
 table_if true t u table p q = p
 table_if false t u table p q = q
 
@@ -73,7 +73,7 @@ released_half (Backspaced a) r e = put_alone-half a (with_half Nothing r)
 apart-half : (b : ℕ) (r : Reader) → (released_and_fresh b r).reader.half ≡ half_by false (shows r.table b) b
 apart-half b r =
     let s = (released r.half r).reader in
-    fresh-half b s (released_half r.half r refl) ∙ ap (λ (t : Table). half_by false (shows t b) b) (released-table r.half r)
+    fresh-half b s (released_half r.half r refl) ∙ ap (λ (t : FixedTable). half_by false (shows t b) b) (released-table r.half r)
 
 -- no stray, and no backspace is left
 apart_strays : (a b : ℕ) (r : Reader) → r.half ≡ Backspaced a → 0 < (released_and_fresh b r).strays
@@ -127,7 +127,7 @@ and_first false y p = p
 far_other : (d : ℕ) → nat_lt (code " ") d ≡ true → (d == 8) ≡ false
 far_other d far = grind (arith, nat_tests)
 
-pub strikes-other : (t : Table) (a b : ℕ) → strikes t a b ≡ true → (b == 8) ≡ false
+pub strikes-other : (t : FixedTable) (a b : ℕ) → strikes t a b ≡ true → (b == 8) ≡ false
 strikes-other t a b p = far_other b (and_first (nat_lt (code " ") b) (goes_out t b) (and_second ((a == b) || (a == code "_")) (shows t b) p))
 
 backed_back : (x : Bool) (a b : ℕ) (r : Reader) → strikes r.table a b ≡ x → r.half ≡ Backspaced a
@@ -158,7 +158,7 @@ back_by x (Backspaced a) b r e half none = backed_back (strikes r.table a b) a b
 -- ---- many bytes
 
 -- what is half read after them, by whether a backspace stood before
-abbrev half_last : Table → Bool → List ℕ → Half
+abbrev half_last : FixedTable → Bool → List ℕ → Half
 half_last t x [] = Nothing
 half_last t x (b ∷ []) = half_by x (shows t b) b
 half_last t x (b ∷ c ∷ cs) = half_last t (b == 8) (c ∷ cs)
@@ -175,7 +175,7 @@ last-half r b (c ∷ cs) none rested =
     let parts = parts_none (read b r).strays (fed s (c ∷ cs)).strays none in
     let back = back_by (b == 8) r.half b r refl refl parts.0 in
     last-half s c cs parts.1 rested
-    ∙ ap (λ (t : Table). half_last t (is_backed s.half) (c ∷ cs)) (after_table r.half b r) ∙ ap (λ (x : Bool). half_last r.table x (c ∷ cs)) back
+    ∙ ap (λ (t : FixedTable). half_last t (is_backed s.half) (c ∷ cs)) (after_table r.half b r) ∙ ap (λ (x : Bool). half_last r.table x (c ∷ cs)) back
 
 -- by places
 abbrev last_of : List ℕ → ℕ
@@ -188,7 +188,7 @@ back_of x [] = x
 back_of x (b ∷ []) = x
 back_of x (b ∷ c ∷ cs) = back_of (b == 8) (c ∷ cs)
 
-half_last-of : (t : Table) (x : Bool) (b : ℕ) (bs : List ℕ) → half_last t x (b ∷ bs) ≡ half_by (back_of x (b ∷ bs)) (shows t (last_of (b ∷ bs))) (last_of (b ∷ bs))
+half_last-of : (t : FixedTable) (x : Bool) (b : ℕ) (bs : List ℕ) → half_last t x (b ∷ bs) ≡ half_by (back_of x (b ∷ bs)) (shows t (last_of (b ∷ bs))) (last_of (b ∷ bs))
 half_last-of t x b [] = refl
 half_last-of t x b (c ∷ cs) = half_last-of t (b == 8) c cs
 
@@ -211,7 +211,7 @@ and_true false = refl
 two_more : (n : ℕ) → nat_lt 1 (suc (suc n)) ≡ true
 two_more n = grind (arith, nat_tests)
 
-half_places : (t : Table) (b : ℕ) (bs : List ℕ) → half_last t false (b ∷ bs) ≡ half_after t (b ∷ bs)
+half_places : (t : FixedTable) (b : ℕ) (bs : List ℕ) → half_last t false (b ∷ bs) ≡ half_after t (b ∷ bs)
 half_places t b [] = ap (λ (x : Bool). half_by x (shows t b) b) (sym (and_last (b == 8)))
 half_places t b (c ∷ cs) =
     let bytes = b ∷ c ∷ cs in
@@ -233,7 +233,7 @@ pub record Held (r s : Reader) (xs bytes : List ℕ) : Type 0 where
   pub all : fed r xs ≡ emitted (with_half (half_after r.table xs) s) prefix 0
   pub split : bytes ≡ prefix ++ half_text r.table (half_after r.table xs)
 
-record HeldBy (h : Half) (t : Emitted) (s : Reader) (bytes : List ℕ) (table : Table) : Type 0 where
+record HeldBy (h : Half) (t : Emitted) (s : Reader) (bytes : List ℕ) (table : FixedTable) : Type 0 where
   prefix : List ℕ
   all : t ≡ emitted (with_half h s) prefix 0
   split : bytes ≡ prefix ++ half_text table h
@@ -244,14 +244,14 @@ goes_by false b r e none =
     let one : (put_alone b r).strays ≡ 1 = ap (λ (t : Emitted). t.strays) (emitted-not (goes_out r.table b) (out (Once b) r) (emitted r [] 1) e) in
     absurd (omega (arith, one, none))
 
-goes_other : (x : Bool) (t : Table) (b : ℕ) → (b == 8) ≡ x → goes_out t b ≡ true → (b == 8) ≡ false
+goes_other : (x : Bool) (t : FixedTable) (b : ℕ) → (b == 8) ≡ x → goes_out t b ≡ true → (b == 8) ≡ false
 goes_other false t b e p = e
 goes_other true t b e p =
     let same : b ≡ 8 = grind (arith, nat_tests) in
     let never : false ≡ true = sym (ap (λ (c : ℕ). goes_out t c) same) ∙ p in
     absurd (cc)
 
-pub goes-no_back : (t : Table) (b : ℕ) → goes_out t b ≡ true → (b == 8) ≡ false
+pub goes-no_back : (t : FixedTable) (b : ℕ) → goes_out t b ≡ true → (b == 8) ≡ false
 goes-no_back t b p = goes_other (b == 8) t b refl p
 
 held_by : (h : Half) (t : Emitted) (s : Reader) (bytes : List ℕ) → t.reader.half ≡ h → let_go_by h t ≡ emitted s bytes 0 → rests_by h t.reader.way ≡ true → t.strays ≡ 0
@@ -297,7 +297,7 @@ Makes-held r s b bs bytes none m =
     record {
       prefix = h.prefix;
       all = h.all ∙ ap (λ (x : Half). emitted (with_half x s) h.prefix 0) half;
-      split = h.split ∙ ap (λ (x : Half). h.prefix ++ half_text t.reader.table x) half ∙ ap (λ (x : Table). h.prefix ++ half_text x (half_after r.table xs)) table;
+      split = h.split ∙ ap (λ (x : Half). h.prefix ++ half_text t.reader.table x) half ∙ ap (λ (x : FixedTable). h.prefix ++ half_text x (half_after r.table xs)) table;
     }
 
 not_true : (x : Bool) → not x ≡ true → x ≡ false
@@ -360,7 +360,7 @@ fed-begins b bs r s bytes begins is same =
 
 pub serves-as : (p : Spelling) (r s : Reader) → s.table ≡ r.table → Serves p r → Serves p s
 serves-as p r s e serves =
-    let P : Table → Type 0 = λ t. Spells t 256 p.all p.whole in
+    let P : FixedTable → Type 0 = λ t. Spells t 256 p.all p.whole in
     subst P (sym e) serves
 
 pub read-table : (b : ℕ) (r s : Reader) → s ≡ (read b r).reader → s.table ≡ r.table

@@ -3,7 +3,7 @@ use Prim.Native.Char.{code}
 use Rattle.std.proofs.Common.{◌≡◌, ℕ, ◌+◌, ◌-◌, ◌≤◌, List, [], ◌∷◌, ◌++◌, length, Bool, true, false, ◌==◌, ◌&&◌, ◌||◌, if◌then◌else◌, refl, sym, subst, ap, ◌∙◌, append-nil, append_assoc, arith}
 use Rattle.std.proofs.lemmas.Bool.Decides.{nat_tests}
 use Rattle.nr_vectors.specs.declared.cell.Look.TheVariants.{Plain}
-use Rattle.utf8_characters.specs.declared.table.Table.{Table}
+use Rattle.utf8_characters.specs.declared.table.FixedTable.{FixedTable}
 use Rattle.utf8_converter.specs.declared.reader.Half.{Half}
 use Rattle.utf8_converter.specs.declared.reader.Half.TheVariants.{Nothing, Byte, Backspaced}
 use Rattle.utf8_converter.specs.declared.reader.Way.{Way}
@@ -14,7 +14,7 @@ use Rattle.utf8_converter.specs.Reading.{Emitted, preceded, ended, fed, first_re
 -- ---- cells after one another
 
 -- what they come to, and the way after them
-abbrev pub drawn_all : Table → Way → List Cell → List ℕ
+abbrev pub drawn_all : FixedTable → Way → List Cell → List ℕ
 drawn_all table way [] = []
 drawn_all table way (c ∷ cs) = drawn table way c ++ drawn_all table (way_after way c) cs
 
@@ -22,7 +22,7 @@ abbrev pub ways_after : Way → List Cell → Way
 ways_after way [] = way
 ways_after way (c ∷ cs) = ways_after (way_after way c) cs
 
-drawn-append : (t : Table) (w : Way) (cs ds : List Cell) → drawn_all t w (cs ++ ds) ≡ drawn_all t w cs ++ drawn_all t (ways_after w cs) ds
+drawn-append : (t : FixedTable) (w : Way) (cs ds : List Cell) → drawn_all t w (cs ++ ds) ≡ drawn_all t w cs ++ drawn_all t (ways_after w cs) ds
 drawn-append t w [] ds = refl
 drawn-append t w (c ∷ cs) ds =
     ap (λ (xs : List ℕ). drawn t w c ++ xs) (drawn-append t (way_after w c) cs ds)
@@ -32,7 +32,7 @@ ways-append : (w : Way) (cs ds : List Cell) → ways_after w (cs ++ ds) ≡ ways
 ways-append w [] ds = refl
 ways-append w (c ∷ cs) ds = ways-append (way_after w c) cs ds
 
-printed-append : (t : Table) (w : Way) (cs ds : List Cell) → printed t w (cs ++ ds) ≡ drawn_all t w cs ++ printed t (ways_after w cs) ds
+printed-append : (t : FixedTable) (w : Way) (cs ds : List Cell) → printed t w (cs ++ ds) ≡ drawn_all t w cs ++ printed t (ways_after w cs) ds
 printed-append t w [] ds = refl
 printed-append t w (c ∷ cs) ds =
     ap (λ (xs : List ℕ). drawn t w c ++ xs) (printed-append t (way_after w c) cs ds)
@@ -60,7 +60,7 @@ drawn-out r c = record { bytes = sym (append-nil (drawn r.table r.way c)); way =
 
 drawn-then : (r : Reader) (cs ds : List Cell) (t : Emitted) (next : Reader → Emitted) → Drawn r cs t → Drawn t.reader ds (next t.reader) → Drawn r (cs ++ ds) (then_emitted t next)
 drawn-then r cs ds t next p q =
-    let P : Table → Type 0 = λ x. (next t.reader).bytes ≡ drawn_all x t.reader.way ds in
+    let P : FixedTable → Type 0 = λ x. (next t.reader).bytes ≡ drawn_all x t.reader.way ds in
     let Q : Way → Type 0 = λ x. (next t.reader).bytes ≡ drawn_all r.table x ds in
     let bytes = subst Q p.way (subst P p.table q.bytes) in
     record {
@@ -76,7 +76,7 @@ drawn-preceded r cs n t p = record { bytes = p.bytes; way = p.way; table = p.tab
 
 drawn-half : (r s : Reader) (cs : List Cell) (t : Emitted) → s.way ≡ r.way → s.table ≡ r.table → Drawn s cs t → Drawn r cs t
 drawn-half r s cs t w u p =
-    let P : Table → Type 0 = λ x. t.bytes ≡ drawn_all x s.way cs in
+    let P : FixedTable → Type 0 = λ x. t.bytes ≡ drawn_all x s.way cs in
     let Q : Way → Type 0 = λ x. t.bytes ≡ drawn_all r.table x cs in
     record { bytes = subst Q w (subst P u p.bytes); way = p.way ∙ ap (λ (x : Way). ways_after x cs) w; table = p.table ∙ u }
 
@@ -101,13 +101,13 @@ and_false true y p = absurd (let never : true ≡ false = p in cc)
 and_false false y p = refl
 
 -- no cell of a byte and what comes
-apart-by : (t : Table) (a : ℕ) (rest : List ℕ) → ((b c : ℕ) → (b == 8) && strikes t a c ≡ false) → cells t (a ∷ rest) ≡ alone t a ++ cells t rest
+apart-by : (t : FixedTable) (a : ℕ) (rest : List ℕ) → ((b c : ℕ) → (b == 8) && strikes t a c ≡ false) → cells t (a ∷ rest) ≡ alone t a ++ cells t rest
 apart-by t a [] isnt = sym (append-nil (alone t a))
 apart-by t a (b ∷ []) isnt = refl
 apart-by t a (b ∷ c ∷ bs) isnt = cells-not ((b == 8) && strikes t a c) (Over a c ∷ cells t bs) (alone t a ++ cells t (b ∷ c ∷ bs)) (isnt b c)
 
 -- no backspace comes
-pub apart-next : (t : Table) (a b : ℕ) (rest : List ℕ) → (b == 8) ≡ false → cells t (a ∷ b ∷ rest) ≡ alone t a ++ cells t (b ∷ rest)
+pub apart-next : (t : FixedTable) (a b : ℕ) (rest : List ℕ) → (b == 8) ≡ false → cells t (a ∷ b ∷ rest) ≡ alone t a ++ cells t (b ∷ rest)
 apart-next t a b [] isnt = refl
 apart-next t a b (c ∷ bs) isnt = cells-not ((b == 8) && strikes t a c) (Over a c ∷ cells t bs) (alone t a ++ cells t (b ∷ c ∷ bs)) (and_false (b == 8) (strikes t a c) isnt)
 
@@ -115,21 +115,21 @@ apart-next t a b (c ∷ bs) isnt = cells-not ((b == 8) && strikes t a c) (Over a
 same_byte : (a c : ℕ) → (a == c) ≡ true → a ≡ c
 same_byte a c p = grind (arith, nat_tests)
 
-strikes_by : (t : Table) (a c : ℕ) (x y : Bool) → (a == c) ≡ x → (a == code "_") ≡ y → shows t a ≡ false → (x || y) && shows t c ≡ false
+strikes_by : (t : FixedTable) (a c : ℕ) (x y : Bool) → (a == c) ≡ x → (a == code "_") ≡ y → shows t a ≡ false → (x || y) && shows t c ≡ false
 strikes_by t a c true y e f hidden = ap (λ (b : ℕ). shows t b) (sym (same_byte a c e)) ∙ hidden
 strikes_by t a c false true e f hidden =
     let line : shows t a ≡ true = ap (λ (b : ℕ). shows t b) (same_byte a (code "_") f) in
     absurd (let never : true ≡ false = sym line ∙ hidden in cc)
 strikes_by t a c false false e f hidden = refl
 
-pub hidden-strikes : (t : Table) (a c : ℕ) → shows t a ≡ false → strikes t a c ≡ false
+pub hidden-strikes : (t : FixedTable) (a c : ℕ) → shows t a ≡ false → strikes t a c ≡ false
 hidden-strikes t a c hidden = strikes_by t a c (a == c) (a == code "_") refl refl hidden
 
 both_false : (x y : Bool) → y ≡ false → x && y ≡ false
 both_false true y p = p
 both_false false y p = refl
 
-pub apart-hidden : (t : Table) (a : ℕ) (rest : List ℕ) → shows t a ≡ false → cells t (a ∷ rest) ≡ alone t a ++ cells t rest
+pub apart-hidden : (t : FixedTable) (a : ℕ) (rest : List ℕ) → shows t a ≡ false → cells t (a ∷ rest) ≡ alone t a ++ cells t rest
 apart-hidden t a rest hidden = apart-by t a rest (λ b c. both_false (b == 8) (strikes t a c) (hidden-strikes t a c hidden))
 
 -- what is emitted of a byte, and what it is in what came
@@ -156,7 +156,7 @@ alone-by false b r = record { all = drawn-nothing r r 1 refl refl; count = omega
 is-alone : (b : ℕ) (r : Reader) → Alone r b (alone r.table b) (put_alone b r)
 is-alone b r = alone-by (goes_out r.table b) b r
 
-half_same : (t : Table) (h k : Half) (cs : List Cell) (rest : List ℕ) → h ≡ k → cs ++ cells t (half_read h ++ rest) ≡ cs ++ cells t (half_read k ++ rest)
+half_same : (t : FixedTable) (h k : Half) (cs : List Cell) (rest : List ℕ) → h ≡ k → cs ++ cells t (half_read h ++ rest) ≡ cs ++ cells t (half_read k ++ rest)
 half_same t h k cs rest e = ap (λ (x : Half). cs ++ cells t (half_read x ++ rest)) e
 
 nothing_half : (h : Half) → h ≡ Nothing → length (half_read h) ≡ 0
@@ -188,7 +188,7 @@ kept-apart : (h : Half) (b : ℕ) (r : Reader) → (marks : List Cell) → Drawn
 kept-apart h b r marks all half count apart =
     let t = released h r in
     let next = kept-fresh b t.reader half in
-    let P : Table → Type 0 = λ x. (rest : List ℕ) → cells x (b ∷ rest) ≡ next.marks ++ cells x (half_read (fresh b t.reader).reader.half ++ rest) in
+    let P : FixedTable → Type 0 = λ x. (rest : List ℕ) → cells x (b ∷ rest) ≡ next.marks ++ cells x (half_read (fresh b t.reader).reader.half ++ rest) in
     let moves = subst P all.table next.moves in
     let both = sizes-append marks next.marks in
     let later = next.count in
@@ -207,7 +207,7 @@ released-byte a b r isnt =
     kept-apart (Byte a) b r (alone r.table a) (drawn-half r s (alone r.table a) (put_alone a s) refl refl one.all) one.half (omega (arith, count)) (λ rest. apart-next r.table a b rest isnt)
 
 -- a backspace that strikes nothing
-apart-back : (t : Table) (a b : ℕ) (rest : List ℕ) → strikes t a b ≡ false → cells t (a ∷ 8 ∷ b ∷ rest) ≡ alone t a ++ cells t (b ∷ rest)
+apart-back : (t : FixedTable) (a b : ℕ) (rest : List ℕ) → strikes t a b ≡ false → cells t (a ∷ 8 ∷ b ∷ rest) ≡ alone t a ++ cells t (b ∷ rest)
 apart-back t a b rest isnt =
     cells-not ((8 == 8) && strikes t a b) (Over a b ∷ cells t rest) (alone t a ++ cells t (8 ∷ b ∷ rest)) isnt
     ∙ ap (λ (cs : List Cell). alone t a ++ cs) (apart-hidden t 8 (b ∷ rest) refl)
@@ -269,7 +269,7 @@ kept-all (b ∷ bs) r =
     let s = (read b r).reader in
     let rest = kept-all bs s in
     let last = (fed s bs).reader in
-    let P : Table → Type 0 = λ t. cells t (half_read s.half ++ bs) ≡ rest.marks ++ cells t (half_read last.half) in
+    let P : FixedTable → Type 0 = λ t. cells t (half_read s.half ++ bs) ≡ rest.marks ++ cells t (half_read last.half) in
     let both = sizes-append one.marks rest.marks in
     let first = one.count in
     let later = rest.count in
@@ -316,14 +316,14 @@ ends (Backspaced a) r =
 -- ---- all bytes of an input
 
 -- what is printed of the cells is what goes out of the bytes, one by one
-pub converted-fed : (d : Table) (e : Bool) (bs : List ℕ) → converted d e bs ≡ (fed (first_reader d e) bs).bytes ++ (ended (fed (first_reader d e) bs).reader).bytes
+pub converted-fed : (d : FixedTable) (e : Bool) (bs : List ℕ) → converted d e bs ≡ (fed (first_reader d e) bs).bytes ++ (ended (fed (first_reader d e) bs).reader).bytes
 converted-fed d e bs =
     let first = first_reader d e in
     let t = fed first bs in
     let all = kept-all bs first in
     let end = ends t.reader.half t.reader in
     let left = cells d (half_read t.reader.half) in
-    let P : Table → Type 0 = λ x. (ended t.reader).bytes ≡ printed x t.reader.way (cells x (half_read t.reader.half)) in
+    let P : FixedTable → Type 0 = λ x. (ended t.reader).bytes ≡ printed x t.reader.way (cells x (half_read t.reader.half)) in
     let Q : Way → Type 0 = λ x. (ended t.reader).bytes ≡ printed d x left in
     let last = subst Q all.all.way (subst P all.all.table end.bytes) in
     ap (λ (cs : List Cell). printed d first.way cs) all.moves ∙ printed-append d first.way all.marks left
@@ -334,28 +334,28 @@ less : (n m k : ℕ) → n ≡ m + k → n - m ≡ k
 less n m k e = omega (arith, e)
 
 -- each byte is in a cell or was dropped
-pub strays-fed : (d : Table) (e : Bool) (bs : List ℕ) → strays_of d bs ≡ (fed (first_reader d e) bs).strays + (ended (fed (first_reader d e) bs).reader).strays
+pub strays-fed : (d : FixedTable) (e : Bool) (bs : List ℕ) → strays_of d bs ≡ (fed (first_reader d e) bs).strays + (ended (fed (first_reader d e) bs).reader).strays
 strays-fed d e bs =
     let first = first_reader d e in
     let t = fed first bs in
     let all = kept-all bs first in
     let end = ends t.reader.half t.reader in
     let left = cells d (half_read t.reader.half) in
-    let P : Table → Type 0 = λ x. length (half_read t.reader.half) ≡ sizes (cells x (half_read t.reader.half)) + (ended t.reader).strays in
+    let P : FixedTable → Type 0 = λ x. length (half_read t.reader.half) ≡ sizes (cells x (half_read t.reader.half)) + (ended t.reader).strays in
     let last : length (half_read t.reader.half) ≡ sizes left + (ended t.reader).strays = subst P all.all.table end.count in
     let whole : sizes (cells d bs) ≡ sizes (all.marks ++ left) = ap sizes all.moves in
     let both = sizes-append all.marks left in
     let count : 0 + length bs ≡ sizes all.marks + t.strays + length (half_read t.reader.half) = all.count in
     less (length bs) (sizes (cells d bs)) (t.strays + (ended t.reader).strays) (omega (arith, last, whole, both, count))
 
-pub few_cells : (d : Table) (e : Bool) (bs : List ℕ) → sizes (cells d bs) ≤ length bs
+pub few_cells : (d : FixedTable) (e : Bool) (bs : List ℕ) → sizes (cells d bs) ≤ length bs
 few_cells d e bs =
     let first = first_reader d e in
     let t = fed first bs in
     let all = kept-all bs first in
     let end = ends t.reader.half t.reader in
     let left = cells d (half_read t.reader.half) in
-    let P : Table → Type 0 = λ x. length (half_read t.reader.half) ≡ sizes (cells x (half_read t.reader.half)) + (ended t.reader).strays in
+    let P : FixedTable → Type 0 = λ x. length (half_read t.reader.half) ≡ sizes (cells x (half_read t.reader.half)) + (ended t.reader).strays in
     let last : length (half_read t.reader.half) ≡ sizes left + (ended t.reader).strays = subst P all.all.table end.count in
     let whole : sizes (cells d bs) ≡ sizes (all.marks ++ left) = ap sizes all.moves in
     let both = sizes-append all.marks left in

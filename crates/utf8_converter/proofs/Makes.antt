@@ -8,7 +8,7 @@ use Rattle.std.specs.Char.{encode_utf8, len_utf8}
 use Rattle.nr_vectors.specs.declared.cell.Look.{Look}
 use Rattle.nr_vectors.specs.declared.cell.Look.TheVariants.{Plain, Under, Bold}
 use Rattle.utf8_characters.specs.OneCell.{is_one_cell}
-use Rattle.utf8_characters.specs.declared.table.Table.{Table}
+use Rattle.utf8_characters.specs.declared.table.FixedTable.{FixedTable}
 use Rattle.utf8_characters.specs.Tables.{character_of}
 use Rattle.utf8_characters.proofs.Laws.{character_fits}
 use Rattle.utf8_converter.specs.declared.reader.Half.{Half}
@@ -168,19 +168,19 @@ few-spelled c p =
 shown_low : (b : ℕ) → is_shown b ≡ true → b < 128
 shown_low b p = grind (arith, nat_tests)
 
-few_beyond : (t : Table) (b : ℕ) (o : Option ℕ) → character_of t b ≡ o → length (if_spelled o) ≤ 3
+few_beyond : (t : FixedTable) (b : ℕ) (o : Option ℕ) → character_of t b ≡ o → length (if_spelled o) ≤ 3
 few_beyond t b None e = omega arith
 few_beyond t b (Some c) e = few-spelled c (character_fits t b c e)
 
-few_by : (x : Bool) (t : Table) (b : ℕ) → is_shown b ≡ x → length (if_spelled (if x then Some b else character_of t b)) ≤ 3
+few_by : (x : Bool) (t : FixedTable) (b : ℕ) → is_shown b ≡ x → length (if_spelled (if x then Some b else character_of t b)) ≤ 3
 few_by true t b e = let one : length (encode_utf8 b) ≡ 1 = ap length (encode_ascii b (shown_low b e)) in omega (arith, one)
 few_by false t b e = few_beyond t b (character_of t b) refl
 
-pub few-text : (t : Table) (b : ℕ) → length (text t b) ≤ 3
+pub few-text : (t : FixedTable) (b : ℕ) → length (text t b) ≤ 3
 few-text t b = few_by (is_shown b) t b refl
 
 -- a byte of ASCII that goes out as it is
-pub text-shown : (t : Table) (b : ℕ) → is_shown b ≡ true → text t b ≡ b ∷ []
+pub text-shown : (t : FixedTable) (b : ℕ) → is_shown b ≡ true → text t b ≡ b ∷ []
 text-shown t b e = ap (λ (x : Bool). if_spelled (if x then Some b else character_of t b)) e ∙ encode_ascii b (shown_low b e)
 
 -- ---- ways
@@ -218,7 +218,7 @@ few_turned Bold Plain = omega arith
 few_turned Bold Under = omega arith
 few_turned Bold Bold = omega arith
 
-few_struck : (t : Table) (w : Way) (a b : ℕ) → length (drawn t w (Over a b)) + owed (way_after w (Over a b)) ≤ 12 + owed w
+few_struck : (t : FixedTable) (w : Way) (a b : ℕ) → length (drawn t w (Over a b)) + owed (way_after w (Over a b)) ≤ 12 + owed w
 few_struck t Backspaces a b =
     let first = few-text t a in
     let second = few-text t b in
@@ -231,7 +231,7 @@ few_struck t (Escapes before) a b =
     let long = length-append (turning (Escapes before) look) (text t b) in
     omega (arith, turn, second, long)
 
-pub few-drawn : (t : Table) (w : Way) (c : Cell) → length (drawn t w c) + owed (way_after w c) ≤ 4 * size c + owed w
+pub few-drawn : (t : FixedTable) (w : Way) (c : Cell) → length (drawn t w c) + owed (way_after w c) ≤ 4 * size c + owed w
 few-drawn t w (Once b) =
     let long = length-append (turning w Plain) (text t b) in
     let few = few-text t b in
@@ -301,15 +301,15 @@ and_second : (x y : Bool) → x && y ≡ true → y ≡ true
 and_second true y p = p
 and_second false y p = absurd (let never : false ≡ true = p in cc)
 
-over_shows : (t : Table) (a c : ℕ) (x y : Bool) → (a == c) ≡ x → (a == code "_") ≡ y → (x || y) && shows t c ≡ true → shows t a ≡ true
+over_shows : (t : FixedTable) (a c : ℕ) (x y : Bool) → (a == c) ≡ x → (a == code "_") ≡ y → (x || y) && shows t c ≡ true → shows t a ≡ true
 over_shows t a c true y e f p = ap (λ (b : ℕ). shows t b) (same_byte a c e) ∙ p
 over_shows t a c false true e f p = ap (λ (b : ℕ). shows t b) (same_byte a (code "_") f)
 over_shows t a c false false e f p = absurd (let never : false ≡ true = p in cc)
 
-pub strikes-shows : (t : Table) (a c : ℕ) → strikes t a c ≡ true → shows t a ≡ true
+pub strikes-shows : (t : FixedTable) (a c : ℕ) → strikes t a c ≡ true → shows t a ≡ true
 strikes-shows t a c p = over_shows t a c (a == c) (a == code "_") refl refl p
 
-pub struck-goes : (t : Table) (a c : ℕ) → strikes t a c ≡ true → goes_out t c ≡ true
+pub struck-goes : (t : FixedTable) (a c : ℕ) → strikes t a c ≡ true → goes_out t c ≡ true
 struck-goes t a c p = and_second (nat_lt (code " ") c) (goes_out t c) (and_second ((a == c) || (a == code "_")) (shows t c) p)
 
 pub Makes-struck : (r : Reader) (a b : ℕ) → r.half ≡ Nothing → strikes r.table a b ≡ true

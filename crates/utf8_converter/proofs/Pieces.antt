@@ -4,14 +4,14 @@ use Rattle.std.proofs.lemmas.List.{get_or-drop, get_or-take, length-take-le, tak
 use Rattle.std.proofs.Math.Seq.{take-add}
 use borrow.Rule.Slice.PartMut.{put_mid}
 use Rattle.nr_vectors.proofs.Copying.{prefix_put}
-use Rattle.utf8_characters.specs.declared.table.Table.{Table}
+use Rattle.utf8_characters.specs.declared.table.FixedTable.{FixedTable}
 use Rattle.utf8_characters.specs.Tables.{character_of, characters, if_any}
 use Rattle.utf8_converter.specs.Cells.{if_spelled, is_shown, text}
 use Rattle.utf8_converter.specs.Spelling.{AllSpelled, AreLow, Puts, Spells, bytes_of, byte_of, count_of}
 use Rattle.utf8_converter.proofs.Spelled.{byte-text, bytes-as-are, bytes_append}
 
 -- a byte of ASCII of which something goes out goes out as it is
-low_text : (t : Table) (b : ℕ) (x : Bool) → is_shown b ≡ x → nat_lt b 128 ≡ true → 0 < length (text t b) → is_shown b ≡ true
+low_text : (t : FixedTable) (b : ℕ) (x : Bool) → is_shown b ≡ x → nat_lt b 128 ≡ true → 0 < length (text t b) → is_shown b ≡ true
 low_text t b true e low some = e
 low_text t b false e low some = absurd (let none : length (text t b) ≡ 0 =
     ap (λ (y : Bool). length (if_spelled (if y then Some b else character_of t b))) e
@@ -25,14 +25,14 @@ or_left : (x y : Bool) → x ≡ true → (x || y) ≡ true
 or_left true y p = refl
 or_left false y p = absurd (let never : false ≡ true = p in cc)
 
-low_by : (t : Table) (b : ℕ) (x : Bool) → (b == 8) ≡ x → nat_lt b 128 ≡ true → 0 < length (byte_of t b) → (is_shown b || (b == 8)) ≡ true
+low_by : (t : FixedTable) (b : ℕ) (x : Bool) → (b == 8) ≡ x → nat_lt b 128 ≡ true → 0 < length (byte_of t b) → (is_shown b || (b == 8)) ≡ true
 low_by t b true e low some = or_right (is_shown b) (b == 8) e
 low_by t b false e low some =
     let P : List ℕ → Type 0 = λ xs. 0 < length xs in
     or_left (is_shown b) (b == 8) (low_text t b (is_shown b) refl low (subst P (byte-text t b e) some))
 
 -- a piece of ASCII goes out as it is
-pub Puts-low : (t : Table) (all : List (List ℕ)) (whole : Bool) (bs room ys : List ℕ) (end k n : ℕ) → Spells t 256 all whole → ((j : ℕ) → j < length bs → get_or bs j 0 < 256)
+pub Puts-low : (t : FixedTable) (all : List (List ℕ)) (whole : Bool) (bs room ys : List ℕ) (end k n : ℕ) → Spells t 256 all whole → ((j : ℕ) → j < length bs → get_or bs j 0 < 256)
     → AllSpelled all bs → AreLow n bs → length bs ≡ n → ys ≡ bs → end ≤ length room → Puts room end (put_mid end k room ys) (end + n) (bytes_of t bs)
 Puts-low t all whole bs room ys end k n s small some low long copied h =
     let same : length ys ≡ n = ap length copied ∙ long in
@@ -55,7 +55,7 @@ piece-spelled all bs at some l k below =
     subst P (sym same) (some (at + k) (omega (arith, below, cut, l)))
 
 -- one piece more
-pub Puts-piece : (t : Table) (bs : List ℕ) (i n : ℕ) (old mid new : List ℕ) (from to end : ℕ) → Puts old from mid to (bytes_of t (take i bs))
+pub Puts-piece : (t : FixedTable) (bs : List ℕ) (i n : ℕ) (old mid new : List ℕ) (from to end : ℕ) → Puts old from mid to (bytes_of t (take i bs))
     → Puts mid to new end (bytes_of t (take n (drop i bs))) → Puts old from new end (bytes_of t (take (i + n) bs))
 Puts-piece t bs i n old mid new from to end p q =
     q ∙ ap (λ (xs : List ℕ). xs ++ bytes_of t (take n (drop i bs))) p

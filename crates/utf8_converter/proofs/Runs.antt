@@ -8,7 +8,7 @@ use Rattle.document_stages.specs.Running.{at_most}
 use Rattle.document_stages.specs.declared.running.RunEnd.{RunEnd}
 use Rattle.document_stages.specs.declared.running.RunEnd.TheVariants.{Done, ReadFault, TooLong, WriteFault}
 use Rattle.document_stages.proofs.Runs.{Ran-counted, Ran-known}
-use Rattle.utf8_characters.specs.declared.table.Table.{Table}
+use Rattle.utf8_characters.specs.declared.table.FixedTable.{FixedTable}
 use Rattle.utf8_converter.specs.Cells.{strays_of}
 use Rattle.utf8_converter.specs.Reading.{first_reader}
 use Rattle.utf8_converter.specs.Running.{Ran, drops, says}
@@ -19,7 +19,7 @@ use Rattle.utf8_converter.proofs.Text.{converted-few, converted-lines, converted
 
 -- ---- what goes out
 
-said-says : (t : Table) (e : Bool) (ends : Bool) (bytes : List ℕ) → said (first_reader t e) ends bytes ≡ says t e ends bytes
+said-says : (t : FixedTable) (e : Bool) (ends : Bool) (bytes : List ℕ) → said (first_reader t e) ends bytes ≡ says t e ends bytes
 said-says t e true bytes = sym (converted-fed t e bytes)
 said-says t e false bytes = refl
 
@@ -63,14 +63,14 @@ Ran-says a b counts wants first last held new n same WriteFault ran = record {
 
 -- ---- how many bytes are dropped
 
-few_strays : (t : Table) (bytes : List ℕ) → strays_of t bytes ≤ length bytes
+few_strays : (t : FixedTable) (bytes : List ℕ) → strays_of t bytes ≤ length bytes
 few_strays t bytes = omega arith
 
-drops-few : (t : Table) (e : Bool) (ends : Bool) (bytes : List ℕ) → drops t e ends bytes ≤ length bytes
+drops-few : (t : FixedTable) (e : Bool) (ends : Bool) (bytes : List ℕ) → drops t e ends bytes ≤ length bytes
 drops-few t e true bytes = few_strays t bytes
 drops-few t e false bytes = let all = strays-fed t e bytes in let few = few_strays t bytes in omega (arith, all, few)
 
-said-drops : (t : Table) (e : Bool) (ends : Bool) (bytes : List ℕ) → strays_said (first_reader t e) ends bytes ≡ drops t e ends bytes
+said-drops : (t : FixedTable) (e : Bool) (ends : Bool) (bytes : List ℕ) → strays_said (first_reader t e) ends bytes ≡ drops t e ends bytes
 said-drops t e true bytes = sym (strays-fed t e bytes)
 said-drops t e false bytes = refl
 
@@ -79,11 +79,11 @@ below-most n m k e l s = omega (arith, e, l, s)
 
 -- ---- a run
 
-text_of : (t : Table) (e : Bool) (ends : Bool) (bytes : List ℕ) → IsText e (says t e ends bytes)
+text_of : (t : FixedTable) (e : Bool) (ends : Bool) (bytes : List ℕ) → IsText e (says t e ends bytes)
 text_of t e true bytes = converted-text t e bytes
 text_of t e false bytes = fed-text t e bytes
 
-pub ran-of : (t : Table) (e : Bool) (a : Bool → List ℕ → List ℕ) (counts : Bool → List ℕ → ℕ) (wants : ℕ) (first last : Option Supply) (held new : Option (List ℕ))
+pub ran-of : (t : FixedTable) (e : Bool) (a : Bool → List ℕ → List ℕ) (counts : Bool → List ℕ → ℕ) (wants : ℕ) (first last : Option Supply) (held new : Option (List ℕ))
     (n k : ℕ) (outcome : RunEnd) → a ≡ said (first_reader t e) → counts ≡ counted 0 (first_reader t e) → wants ≡ 1536 → k ≡ n
     → runs.Ran a counts wants first last held new n outcome → Ran t e first last held new k outcome
 ran-of t e a counts wants first last held new n k outcome p q w same ran =

@@ -5,7 +5,7 @@ use Rattle.std.proofs.Math.Seq.{drop-cons}
 use Rattle.std.proofs.lemmas.List.{get_or-take, length-append, length-take-le, take-append-drop, take-append-le, take-take, take_all}
 use Rattle.std.proofs.lemmas.Bool.Decides.{nat_tests}
 use borrow.Rule.Slice.PartMut.{put_mid}
-use Rattle.utf8_characters.specs.declared.table.Table.{Table}
+use Rattle.utf8_characters.specs.declared.table.FixedTable.{FixedTable}
 use Rattle.utf8_converter.specs.declared.reader.Reader.{Reader}
 use Rattle.utf8_converter.specs.declared.reader.Way.{Way}
 use Rattle.utf8_converter.specs.declared.reader.Way.TheVariants.{Backspaces, Escapes}
@@ -97,7 +97,7 @@ Makes-first r b fresh may some =
     let P : List ℕ → Type 0 = λ xs. Makes r r (b ∷ []) xs in
     subst P (sym (byte-text r.table b other)) (Makes-once r b fresh (some-goes r.table b other some))
 
-struck_bytes : (t : Table) (b d : ℕ) (ds : List ℕ) → (b == 8) ≡ false → (d == 8) ≡ false → (text t b ++ 8 ∷ text t d) ++ bytes_of t ds ≡ bytes_of t (b ∷ 8 ∷ d ∷ ds)
+struck_bytes : (t : FixedTable) (b d : ℕ) (ds : List ℕ) → (b == 8) ≡ false → (d == 8) ≡ false → (text t b ++ 8 ∷ text t d) ++ bytes_of t ds ≡ bytes_of t (b ∷ 8 ∷ d ∷ ds)
 struck_bytes t b d ds p q =
     append_assoc (text t b) (8 ∷ text t d) (bytes_of t ds)
     ∙ ap (λ (xs : List ℕ). xs ++ (8 ∷ (text t d ++ bytes_of t ds))) (sym (byte-text t b p))
@@ -305,7 +305,7 @@ prefix_shaped s r bytes n long small spells chunk few last =
 -- ---- what is put of it
 
 -- what is left is put after it
-Puts-cut : (t : Table) (bs old new : List ℕ) (from to end n : ℕ) → Puts old from new to (bytes_of t bs) → from ≤ length old → to ≤ length new → end + length (bytes_of t (drop n bs)) ≡ to
+Puts-cut : (t : FixedTable) (bs old new : List ℕ) (from to end n : ℕ) → Puts old from new to (bytes_of t bs) → from ≤ length old → to ≤ length new → end + length (bytes_of t (drop n bs)) ≡ to
     → Puts old from new end (bytes_of t (take n bs))
 Puts-cut t bs old new from to end n put begins room left =
     let far = Puts-long old new (bytes_of t bs) from to begins room put in
@@ -338,7 +338,7 @@ none_of : (xs : List ℕ) → length xs ≡ 0 → xs ≡ []
 none_of [] p = refl
 none_of (x ∷ xs) p = absurd (omega (arith, p))
 
-pub Cuts-none : (t : Table) (bytes : List ℕ) (to : ℕ) → 34 ≤ length bytes → (get_or bytes 31 0 == 8) ≡ false → Cuts t bytes to 32 to
+pub Cuts-none : (t : FixedTable) (bytes : List ℕ) (to : ℕ) → 34 ≤ length bytes → (get_or bytes 31 0 == 8) ≡ false → Cuts t bytes to 32 to
 Cuts-none t bytes to long other =
     let cut = length-take-le 32 bytes (omega (arith, long)) in
     let rest = length-drop 32 (take 32 bytes) in
@@ -395,7 +395,7 @@ Cuts-two s r bytes to long chunk back far =
     }
 
 -- what is left of a chunk was put
-pub left-within : (t : Table) (bytes : List ℕ) (n to : ℕ) → length (bytes_of t (take 32 bytes)) ≤ to → length (bytes_of t (drop n (take 32 bytes))) ≤ to
+pub left-within : (t : FixedTable) (bytes : List ℕ) (n to : ℕ) → length (bytes_of t (take 32 bytes)) ≤ to → length (bytes_of t (drop n (take 32 bytes))) ≤ to
 left-within t bytes n to far =
     let split : bytes_of t (take 32 bytes) ≡ bytes_of t (take n (take 32 bytes)) ++ bytes_of t (drop n (take 32 bytes)) =
     ap (λ (xs : List ℕ). bytes_of t xs) (sym (take-append-drop n (take 32 bytes))) ∙ bytes_append t (take n (take 32 bytes)) (drop n (take 32 bytes)) in
@@ -403,14 +403,14 @@ left-within t bytes n to far =
     let both = length-append (bytes_of t (take n (take 32 bytes))) (bytes_of t (drop n (take 32 bytes))) in
     omega (arith, far, long, both)
 
-pub left-one : (t : Table) (bytes : List ℕ) (to : ℕ) → 34 ≤ length bytes → length (bytes_of t (take 32 bytes)) ≤ to → length (byte_of t (get_or bytes 31 0)) ≤ to
+pub left-one : (t : FixedTable) (bytes : List ℕ) (to : ℕ) → 34 ≤ length bytes → length (bytes_of t (take 32 bytes)) ≤ to → length (byte_of t (get_or bytes 31 0)) ≤ to
 left-one t bytes to long far =
     let size : length (bytes_of t (drop 31 (take 32 bytes))) ≡ length (byte_of t (get_or bytes 31 0)) =
     ap (λ (xs : List ℕ). length (bytes_of t xs)) (drop_one bytes long) ∙ ap length (append-nil (byte_of t (get_or bytes 31 0))) in
     let within = left-within t bytes 31 to far in
     omega (arith, size, within)
 
-pub left-two : (t : Table) (bytes : List ℕ) (to : ℕ) → 34 ≤ length bytes → (get_or bytes 31 0 == 8) ≡ true → length (bytes_of t (take 32 bytes)) ≤ to
+pub left-two : (t : FixedTable) (bytes : List ℕ) (to : ℕ) → 34 ≤ length bytes → (get_or bytes 31 0 == 8) ≡ true → length (bytes_of t (take 32 bytes)) ≤ to
     → length (byte_of t (get_or bytes 30 0)) + 1 ≤ to
 left-two t bytes to long back far =
     let b = get_or bytes 30 0 in

@@ -9,7 +9,7 @@ use Rattle.std.proofs.Math.Seq.{take-suc}
 use Rattle.std.proofs.lemmas.Bool.Decides.{nat_tests}
 use Rattle.std.proofs.lemmas.Str.{length-encode}
 use Rattle.std.specs.Char.{encode_utf8, len_utf8}
-use Rattle.utf8_characters.specs.declared.table.Table.{Table}
+use Rattle.utf8_characters.specs.declared.table.FixedTable.{FixedTable}
 use Rattle.utf8_characters.specs.Tables.{character_of}
 use Rattle.utf8_converter.specs.Cells.{character_for, goes_out, if_spelled, is_shown, text}
 use Rattle.utf8_converter.specs.Shapes.{may_stand}
@@ -30,18 +30,18 @@ is_back : (b : ℕ) → (b == 8) ≡ true → b ≡ 8
 is_back b p = grind (arith, nat_tests)
 
 -- what is no backspace goes out as its text
-pub byte-text : (t : Table) (b : ℕ) → (b == 8) ≡ false → byte_of t b ≡ text t b
+pub byte-text : (t : FixedTable) (b : ℕ) → (b == 8) ≡ false → byte_of t b ≡ text t b
 byte-text t b isnt = bytes-not (b == 8) (8 ∷ []) (text t b) isnt
 
 or_false : (x y : Bool) → x || y ≡ true → y ≡ false → x ≡ true
 or_false true y p q = refl
 or_false false y p q = absurd (let never : true ≡ false = sym p ∙ q in cc)
 
-as_is_by : (x : Bool) (t : Table) (b : ℕ) → (b == 8) ≡ x → (is_shown b || (b == 8)) ≡ true → byte_of t b ≡ b ∷ []
+as_is_by : (x : Bool) (t : FixedTable) (b : ℕ) → (b == 8) ≡ x → (is_shown b || (b == 8)) ≡ true → byte_of t b ≡ b ∷ []
 as_is_by true t b e p = bytes-if (b == 8) (8 ∷ []) (text t b) e ∙ ap (λ (x : ℕ). x ∷ []) (sym (is_back b e))
 as_is_by false t b e p = byte-text t b e ∙ text-shown t b (or_false (is_shown b) (b == 8) p e)
 
-pub byte-as-is : (t : Table) (b : ℕ) → (is_shown b || (b == 8)) ≡ true → byte_of t b ≡ b ∷ []
+pub byte-as-is : (t : FixedTable) (b : ℕ) → (is_shown b || (b == 8)) ≡ true → byte_of t b ≡ b ∷ []
 byte-as-is t b p = as_is_by (b == 8) t b refl p
 
 -- something goes out of each byte that has a character
@@ -64,37 +64,37 @@ count_by : (o : Option ℕ) → nat_lt 0 (length (if_spelled o)) ≡ is_some o
 count_by None = refl
 count_by (Some c) = is_more (length (encode_utf8 c)) (some_spelled c)
 
-pub count-goes : (t : Table) (b : ℕ) → (b == 8) ≡ false → nat_lt 0 (length (byte_of t b)) ≡ goes_out t b
+pub count-goes : (t : FixedTable) (b : ℕ) → (b == 8) ≡ false → nat_lt 0 (length (byte_of t b)) ≡ goes_out t b
 count-goes t b isnt = ap (λ (xs : List ℕ). nat_lt 0 (length xs)) (byte-text t b isnt) ∙ count_by (character_for t b)
 
 goes_true : (x : Bool) (n : ℕ) → nat_lt 0 n ≡ x → 0 < n → x ≡ true
 goes_true x n e l = sym e ∙ is_more n l
 
-pub some-goes : (t : Table) (b : ℕ) → (b == 8) ≡ false → 0 < length (byte_of t b) → goes_out t b ≡ true
+pub some-goes : (t : FixedTable) (b : ℕ) → (b == 8) ≡ false → 0 < length (byte_of t b) → goes_out t b ≡ true
 some-goes t b isnt some = goes_true (goes_out t b) (length (byte_of t b)) (count-goes t b isnt) some
 
 -- ---- many
 
-pub bytes_append : (t : Table) (xs ys : List ℕ) → bytes_of t (xs ++ ys) ≡ bytes_of t xs ++ bytes_of t ys
+pub bytes_append : (t : FixedTable) (xs ys : List ℕ) → bytes_of t (xs ++ ys) ≡ bytes_of t xs ++ bytes_of t ys
 bytes_append t [] ys = refl
 bytes_append t (x ∷ xs) ys =
     ap (λ (zs : List ℕ). byte_of t x ++ zs) (bytes_append t xs ys) ∙ sym (append_assoc (byte_of t x) (bytes_of t xs) (bytes_of t ys))
 
-bytes_next : (t : Table) (bs : List ℕ) (i : ℕ) → i < length bs → bytes_of t (take (i + 1) bs) ≡ bytes_of t (take i bs) ++ byte_of t (get_or bs i 0)
+bytes_next : (t : FixedTable) (bs : List ℕ) (i : ℕ) → i < length bs → bytes_of t (take (i + 1) bs) ≡ bytes_of t (take i bs) ++ byte_of t (get_or bs i 0)
 bytes_next t bs i l =
     let b = get_or bs i 0 in
     let prefix : take (i + 1) bs ≡ take i bs ++ b ∷ [] = rw add-one (take-suc bs i 0 l) in
     ap (λ (xs : List ℕ). bytes_of t xs) prefix ∙ bytes_append t (take i bs) (b ∷ [])
     ∙ ap (λ (xs : List ℕ). bytes_of t (take i bs) ++ xs) (append-nil (byte_of t b))
 
-pub Puts-next : (t : Table) (bs : List ℕ) (i : ℕ) (old mid new : List ℕ) (from to end : ℕ) → i < length bs
+pub Puts-next : (t : FixedTable) (bs : List ℕ) (i : ℕ) (old mid new : List ℕ) (from to end : ℕ) → i < length bs
     → Puts old from mid to (bytes_of t (take i bs)) → Puts mid to new end (byte_of t (get_or bs i 0)) → Puts old from new end (bytes_of t (take (i + 1) bs))
 Puts-next t bs i old mid new from to end l p q =
     q ∙ ap (λ (xs : List ℕ). xs ++ byte_of t (get_or bs i 0)) p
     ∙ append_assoc (take from old) (bytes_of t (take i bs)) (byte_of t (get_or bs i 0))
     ∙ ap (λ (xs : List ℕ). take from old ++ xs) (sym (bytes_next t bs i l))
 
-pub bytes-as-are : (t : Table) (bs : List ℕ) → ((k : ℕ) → k < length bs → (is_shown (get_or bs k 0) || (get_or bs k 0 == 8)) ≡ true) → bytes_of t bs ≡ bs
+pub bytes-as-are : (t : FixedTable) (bs : List ℕ) → ((k : ℕ) → k < length bs → (is_shown (get_or bs k 0) || (get_or bs k 0 == 8)) ≡ true) → bytes_of t bs ≡ bs
 bytes-as-are t [] all = refl
 bytes-as-are t (b ∷ bs) all =
     let one = byte-as-is t b (all zero (omega arith)) in
@@ -102,13 +102,13 @@ bytes-as-are t (b ∷ bs) all =
 
 -- ---- what is kept of a table
 
-long_as_is : (t : Table) (b : ℕ) → (is_shown b || (b == 8)) ≡ true → 0 < length (byte_of t b)
+long_as_is : (t : FixedTable) (b : ℕ) → (is_shown b || (b == 8)) ≡ true → 0 < length (byte_of t b)
 long_as_is t b e = let one : length (byte_of t b) ≡ 1 = ap length (byte-as-is t b e) in omega (arith, one)
 
 as_is_low : (b : ℕ) → nat_le 128 b ≡ false → (may_stand b || (b == 8)) ≡ true → (is_shown b || (b == 8)) ≡ true
 as_is_low b low may = grind (arith, nat_tests)
 
-some_by : (t : Table) (all : List (List ℕ)) (b : ℕ) (high : Bool) → nat_le 128 b ≡ high → b < 256 → Spells t 256 all true → (may_stand b || (b == 8)) ≡ true → 0 < count_of (get_or all b [])
+some_by : (t : FixedTable) (all : List (List ℕ)) (b : ℕ) (high : Bool) → nat_le 128 b ≡ high → b < 256 → Spells t 256 all true → (may_stand b || (b == 8)) ≡ true → 0 < count_of (get_or all b [])
 some_by t all b true e small s may =
     let far : 128 ≤ b = grind (arith, nat_tests) in
     s.beyond refl b small far
@@ -118,7 +118,7 @@ some_by t all b false e small s may =
     omega (arith, count, long)
 
 -- something goes out of all these
-pub all-spelled : (t : Table) (all : List (List ℕ)) (whole : Bool) (bs : List ℕ) → ((k : ℕ) → k < length bs → get_or bs k 0 < 256) → Spells t 256 all whole → whole ≡ true
+pub all-spelled : (t : FixedTable) (all : List (List ℕ)) (whole : Bool) (bs : List ℕ) → ((k : ℕ) → k < length bs → get_or bs k 0 < 256) → Spells t 256 all whole → whole ≡ true
     → ((k : ℕ) → k < length bs → (may_stand (get_or bs k 0) || (get_or bs k 0 == 8)) ≡ true) → AllSpelled all bs
 all-spelled t all whole bs small s is may k below =
     let P : Bool → Type 0 = λ w. Spells t 256 all w in
@@ -131,7 +131,7 @@ both_true : (x y : Bool) → x && y ≡ true → (x ≡ true) × (y ≡ true)
 both_true true y p = (refl, p)
 both_true false y p = absurd (let never : false ≡ true = p in cc)
 
-next_each : (t : Table) (n : ℕ) (all : List (List ℕ)) (whole : Bool) (s : List ℕ) (b : ℕ) → Spells t n all whole → n < length all → IsSpelled t n s → (b < n) ⊎ (b ≡ n)
+next_each : (t : FixedTable) (n : ℕ) (all : List (List ℕ)) (whole : Bool) (s : List ℕ) (b : ℕ) → Spells t n all whole → n < length all → IsSpelled t n s → (b < n) ⊎ (b ≡ n)
     → IsSpelled t b (get_or (set all n s) b [])
 next_each t n all whole s b before l one (inl low) =
     let other : ¬ (b ≡ n) = λ e. omega (arith, e, low) in
@@ -143,7 +143,7 @@ next_each t n all whole s b before l one (inr same) =
     let Q : ℕ → Type 0 = λ x. IsSpelled t x s in
     subst P (sym put) (subst Q (sym same) one)
 
-next_beyond : (t : Table) (n : ℕ) (all : List (List ℕ)) (whole : Bool) (s : List ℕ) (b : ℕ) → Spells t n all whole → n < length all → whole ≡ true → (128 ≤ n → 0 < count_of s)
+next_beyond : (t : FixedTable) (n : ℕ) (all : List (List ℕ)) (whole : Bool) (s : List ℕ) (b : ℕ) → Spells t n all whole → n < length all → whole ≡ true → (128 ≤ n → 0 < count_of s)
     → 128 ≤ b → (b < n) ⊎ (b ≡ n) → 0 < count_of (get_or (set all n s) b [])
 next_beyond t n all whole s b before l is covered far (inl low) =
     let other : ¬ (b ≡ n) = λ e. omega (arith, e, low) in
@@ -155,18 +155,18 @@ next_beyond t n all whole s b before l is covered far (inr same) =
     subst P (sym put) (covered (omega (arith, same, far)))
 
 -- one byte more
-pub Spells-next : (t : Table) (n : ℕ) (all : List (List ℕ)) (whole w : Bool) (s : List ℕ) → Spells t n all whole → n < length all → IsSpelled t n s
+pub Spells-next : (t : FixedTable) (n : ℕ) (all : List (List ℕ)) (whole w : Bool) (s : List ℕ) → Spells t n all whole → n < length all → IsSpelled t n s
     → (w ≡ true → 128 ≤ n → 0 < count_of s) → Spells t (n + 1) (set all n s) (whole && w)
 Spells-next t n all whole w s before l one covered = record {
   each = λ b below. next_each t n all whole s b before l one (below_or_last b n below);
   beyond = λ is b below far. let both = both_true whole w is in next_beyond t n all whole s b before l both.0 (covered both.1) far (below_or_last b n below);
 }
 
-text_beyond : (t : Table) (b c : ℕ) → is_shown b ≡ false → character_of t b ≡ Some c → text t b ≡ encode_utf8 c
+text_beyond : (t : FixedTable) (b c : ℕ) → is_shown b ≡ false → character_of t b ≡ Some c → text t b ≡ encode_utf8 c
 text_beyond t b c isnt is = ap (λ (x : Bool). if_spelled (if x then Some b else character_of t b)) isnt ∙ ap if_spelled is
 
 -- a character, and 64 times the number of its bytes
-pub Spelled-character : (t : Table) (b c : ℕ) (xs bytes : List ℕ) → is_shown b ≡ false → (b == 8) ≡ false → character_of t b ≡ Some c → bytes ≡ encode_utf8 c → xs ≡ bytes
+pub Spelled-character : (t : FixedTable) (b c : ℕ) (xs bytes : List ℕ) → is_shown b ≡ false → (b == 8) ≡ false → character_of t b ≡ Some c → bytes ≡ encode_utf8 c → xs ≡ bytes
     → length bytes ≤ 3 → IsSpelled t b (xs ++ drop (length bytes) (0 ∷ 0 ∷ 0 ∷ 64 * length bytes ∷ []))
 Spelled-character t b c xs bytes unshown other is means same few =
     let n = length bytes in
@@ -188,22 +188,22 @@ Spelled-character t b c xs bytes unshown other is means same few =
     }
 
 -- one that is put as it is
-pub Spelled-as-is : (t : Table) (b : ℕ) → (is_shown b || (b == 8)) ≡ true → IsSpelled t b (b ∷ 0 ∷ 0 ∷ 64 ∷ [])
+pub Spelled-as-is : (t : FixedTable) (b : ℕ) → (is_shown b || (b == 8)) ≡ true → IsSpelled t b (b ∷ 0 ∷ 0 ∷ 64 ∷ [])
 Spelled-as-is t b e =
     let same = byte-as-is t b e in
     record { prefix = sym same; count = ap length same; four = refl; few = omega arith }
 
-text_none : (t : Table) (b : ℕ) → is_shown b ≡ false → character_of t b ≡ None → text t b ≡ []
+text_none : (t : FixedTable) (b : ℕ) → is_shown b ≡ false → character_of t b ≡ None → text t b ≡ []
 text_none t b isnt is = ap (λ (x : Bool). if_spelled (if x then Some b else character_of t b)) isnt ∙ ap if_spelled is
 
-pub Spelled-none : (t : Table) (b : ℕ) → is_shown b ≡ false → (b == 8) ≡ false → character_of t b ≡ None → IsSpelled t b (0 ∷ 0 ∷ 0 ∷ 0 ∷ [])
+pub Spelled-none : (t : FixedTable) (b : ℕ) → is_shown b ≡ false → (b == 8) ≡ false → character_of t b ≡ None → IsSpelled t b (0 ∷ 0 ∷ 0 ∷ 0 ∷ [])
 Spelled-none t b unshown other is =
     let same = byte-text t b other ∙ text_none t b unshown is in
     record { prefix = sym same; count = ap length same; four = refl; few = omega arith }
 
 -- ---- what stands in a room
 
-pub Puts-spelled : (t : Table) (b byte : ℕ) (s : List ℕ) (room ys : List ℕ) (end k : ℕ) → IsSpelled t b s → b ≡ byte → ys ≡ s → end ≤ length room
+pub Puts-spelled : (t : FixedTable) (b byte : ℕ) (s : List ℕ) (room ys : List ℕ) (end k : ℕ) → IsSpelled t b s → b ≡ byte → ys ≡ s → end ≤ length room
     → Puts room end (put_mid end k room ys) (end + count_of s) (byte_of t byte)
 Puts-spelled t b byte s room ys end k one same copied h =
     let four : length ys ≡ 4 = ap length copied ∙ one.four in

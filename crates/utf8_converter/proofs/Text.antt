@@ -13,7 +13,7 @@ use Rattle.nr_vectors.specs.declared.cell.Look.{Look}
 use Rattle.nr_vectors.specs.declared.cell.Look.TheVariants.{Plain, Under, Bold}
 use Rattle.utf8_characters.specs.OneCell.{is_one_cell}
 use Rattle.utf8_characters.specs.Tables.{character_of}
-use Rattle.utf8_characters.specs.declared.table.Table.{Table}
+use Rattle.utf8_characters.specs.declared.table.FixedTable.{FixedTable}
 use Rattle.utf8_characters.proofs.Laws.{character_fits, character_scalar}
 use Rattle.utf8_converter.specs.declared.reader.Way.{Way}
 use Rattle.utf8_converter.specs.declared.reader.Way.TheVariants.{Backspaces, Escapes}
@@ -178,7 +178,7 @@ cell_seen c p = grind (arith, nat_tests)
 same_some : (x y : ℕ) → Some x ≡ Some y → x ≡ y
 same_some x y p = cc
 
-seen_by : (x : Bool) (t : Table) (b c : ℕ) → is_shown b ≡ x → (if x then Some b else character_of t b) ≡ Some c → IsSeen b c
+seen_by : (x : Bool) (t : FixedTable) (b c : ℕ) → is_shown b ≡ x → (if x then Some b else character_of t b) ≡ Some c → IsSeen b c
 seen_by true t b c e p =
     let P : ℕ → Type 0 = λ k. IsSeen b k in
     subst P (same_some b c p) (record { is = or_left (is_shown b) (is_one_cell b) e; scalar_is = shown_scalar b e; seen = λ far. far })
@@ -186,14 +186,14 @@ seen_by false t b c e p =
     let fits = character_fits t b c p in
     record { is = or_right (is_shown c) (is_one_cell c) fits; scalar_is = character_scalar t b c p; seen = λ far. cell_seen c fits }
 
-seen : (t : Table) (b c : ℕ) → character_for t b ≡ Some c → IsSeen b c
+seen : (t : FixedTable) (b c : ℕ) → character_for t b ≡ Some c → IsSeen b c
 seen t b c p = seen_by (is_shown b) t b c refl p
 
-byte_text : (e : Bool) (t : Table) (b : ℕ) (o : Option ℕ) → character_for t b ≡ o → Marked e (listed o) (if_spelled o)
+byte_text : (e : Bool) (t : FixedTable) (b : ℕ) (o : Option ℕ) → character_for t b ≡ o → Marked e (listed o) (if_spelled o)
 byte_text e t b None p = text-nil e
 byte_text e t b (Some c) p = let s = seen t b c p in text-printed e c s.is s.scalar_is
 
-text-byte : (e : Bool) (t : Table) (b : ℕ) → Marked e (listed (character_for t b)) (text t b)
+text-byte : (e : Bool) (t : FixedTable) (b : ℕ) → Marked e (listed (character_for t b)) (text t b)
 text-byte e t b = byte_text e t b (character_for t b) refl
 
 -- ---- struck cells
@@ -204,7 +204,7 @@ same_byte a c p = grind (arith, nat_tests)
 eq_self : (c : ℕ) → (c == c) ≡ true
 eq_self c = grind (arith, nat_tests)
 
-over_text : (t : Table) (a b : ℕ) (x y : Bool) (o : Option ℕ) → (a == b) ≡ x → (a == code "_") ≡ y → (x || y) ≡ true → nat_lt (code " ") b ≡ true → character_for t b ≡ o
+over_text : (t : FixedTable) (a b : ℕ) (x y : Bool) (o : Option ℕ) → (a == b) ≡ x → (a == code "_") ≡ y → (x || y) ≡ true → nat_lt (code " ") b ≡ true → character_for t b ≡ o
     → goes_out t b ≡ true → Marked false (listed o) (text t a ++ 8 ∷ if_spelled o)
 over_text t a b x y None e f over far is goes = absurd (let none : goes_out t b ≡ false = ap is_some is in let never : true ≡ false = sym goes ∙ none in cc)
 over_text t a b true y (Some c) e f over far is goes =
@@ -221,15 +221,15 @@ over_text t a b false false (Some c) e f over far is goes = absurd (let never : 
 
 -- ---- cells
 
-is_cell : Table → Cell → Bool
+is_cell : FixedTable → Cell → Bool
 is_cell t (Once b) = true
 is_cell t (Over a b) = strikes t a b
 
-all_cells : Table → List Cell → Bool
+all_cells : FixedTable → List Cell → Bool
 all_cells t [] = true
 all_cells t (c ∷ cs) = is_cell t c && all_cells t cs
 
-drawn-text : (t : Table) (w : Way) (c : Cell) → is_cell t c ≡ true → Marked (uses_escapes w) (listed (character_for t (elim c as (λ v. ℕ) [ Once b ↦ b | Over a b ↦ b ]))) (drawn t w c)
+drawn-text : (t : FixedTable) (w : Way) (c : Cell) → is_cell t c ≡ true → Marked (uses_escapes w) (listed (character_for t (elim c as (λ v. ℕ) [ Once b ↦ b | Over a b ↦ b ]))) (drawn t w c)
 unfolding is_cell uses_escapes
 drawn-text t w (Once b) p = text-append (uses_escapes w) [] (listed (character_for t b)) (turning w Plain) (text t b) (text-turning w Plain) (text-byte (uses_escapes w) t b)
 drawn-text t Backspaces (Over a b) p =
@@ -239,7 +239,7 @@ drawn-text t Backspaces (Over a b) p =
 drawn-text t (Escapes before) (Over a b) p =
     text-append true [] (listed (character_for t b)) (turning (Escapes before) (look_of before (Over a b))) (text t b) (text-turning (Escapes before) (look_of before (Over a b))) (text-byte true t b)
 
-text-drawn : (t : Table) (w : Way) (cs : List Cell) → all_cells t cs ≡ true → Marked (uses_escapes w) (characters_in t cs) (drawn_all t w cs)
+text-drawn : (t : FixedTable) (w : Way) (cs : List Cell) → all_cells t cs ≡ true → Marked (uses_escapes w) (characters_in t cs) (drawn_all t w cs)
 unfolding all_cells
 text-drawn t w [] p = text-nil (uses_escapes w)
 text-drawn t w (c ∷ cs) p =
@@ -247,7 +247,7 @@ text-drawn t w (c ∷ cs) p =
     text-append (uses_escapes w) _ (characters_in t cs) (drawn t w c) (drawn_all t (way_after w c) cs)
     (drawn-text t w c (and_first (is_cell t c) (all_cells t cs) p)) (subst P (after_same w c) (text-drawn t (way_after w c) cs (and_second (is_cell t c) (all_cells t cs) p)))
 
-text-all : (t : Table) (w : Way) (cs : List Cell) → all_cells t cs ≡ true → Marked (uses_escapes w) (characters_in t cs) (printed t w cs)
+text-all : (t : FixedTable) (w : Way) (cs : List Cell) → all_cells t cs ≡ true → Marked (uses_escapes w) (characters_in t cs) (printed t w cs)
 unfolding all_cells
 text-all t w [] p = text-turning w Plain
 text-all t w (c ∷ cs) p =
@@ -257,27 +257,27 @@ text-all t w (c ∷ cs) p =
 
 -- ---- the cells of bytes
 
-all-append : (t : Table) (cs ds : List Cell) → all_cells t cs ≡ true → all_cells t ds ≡ true → all_cells t (cs ++ ds) ≡ true
+all-append : (t : FixedTable) (cs ds : List Cell) → all_cells t cs ≡ true → all_cells t ds ≡ true → all_cells t (cs ++ ds) ≡ true
 unfolding all_cells
 all-append t [] ds p q = q
 all-append t (c ∷ cs) ds p q = and_both (is_cell t c) (all_cells t (cs ++ ds)) (and_first (is_cell t c) (all_cells t cs) p) (all-append t cs ds (and_second (is_cell t c) (all_cells t cs) p) q)
 
-all-prefix : (t : Table) (cs ds : List Cell) → all_cells t (cs ++ ds) ≡ true → all_cells t cs ≡ true
+all-prefix : (t : FixedTable) (cs ds : List Cell) → all_cells t (cs ++ ds) ≡ true → all_cells t cs ≡ true
 unfolding all_cells
 all-prefix t [] ds p = refl
 all-prefix t (c ∷ cs) ds p = and_both (is_cell t c) (all_cells t cs) (and_first (is_cell t c) (all_cells t (cs ++ ds)) p) (all-prefix t cs ds (and_second (is_cell t c) (all_cells t (cs ++ ds)) p))
 
-all_alone : (x : Bool) (t : Table) (b : ℕ) → all_cells t (if x then Once b ∷ [] else []) ≡ true
+all_alone : (x : Bool) (t : FixedTable) (b : ℕ) → all_cells t (if x then Once b ∷ [] else []) ≡ true
 unfolding all_cells is_cell
 all_alone true t b = refl
 all_alone false t b = refl
 
-all_if : (x : Bool) (t : Table) (a c : ℕ) (cs ds : List Cell) → (x ≡ true → strikes t a c ≡ true) → all_cells t cs ≡ true → all_cells t ds ≡ true → all_cells t (if x then Over a c ∷ cs else ds) ≡ true
+all_if : (x : Bool) (t : FixedTable) (a c : ℕ) (cs ds : List Cell) → (x ≡ true → strikes t a c ≡ true) → all_cells t cs ≡ true → all_cells t ds ≡ true → all_cells t (if x then Over a c ∷ cs else ds) ≡ true
 unfolding all_cells is_cell
 all_if true t a c cs ds p q r = and_both (strikes t a c) (all_cells t cs) (p refl) q
 all_if false t a c cs ds p q r = r
 
-all-cells : (t : Table) (bs : List ℕ) → all_cells t (cells t bs) ≡ true
+all-cells : (t : FixedTable) (bs : List ℕ) → all_cells t (cells t bs) ≡ true
 all-cells t [] = unfold all_cells in refl
 all-cells t (a ∷ []) = all_alone (goes_out t a) t a
 all-cells t (a ∷ b ∷ []) = all-append t (alone t a) (alone t b) (all_alone (goes_out t a) t a) (all_alone (goes_out t b) t b)
@@ -287,7 +287,7 @@ all-cells t (a ∷ b ∷ c ∷ bs) =
 
 -- ---- all that goes out
 
-pub fed-text : (d : Table) (e : Bool) (bs : List ℕ) → IsText e (fed (first_reader d e) bs).bytes
+pub fed-text : (d : FixedTable) (e : Bool) (bs : List ℕ) → IsText e (fed (first_reader d e) bs).bytes
 fed-text d e bs =
     let first = first_reader d e in
     let all = kept-all bs first in
@@ -298,15 +298,15 @@ fed-text d e bs =
     let R : List ℕ → Type 0 = λ xs. IsText e xs in
     subst R (sym all.all.bytes) (text_of e (characters_in d all.marks) (drawn_all d first.way all.marks) (subst Q (first_same e) (text-drawn d first.way all.marks valid)))
 
-converted-marked : (d : Table) (e : Bool) (bs : List ℕ) → Marked e (characters_in d (cells d bs)) (converted d e bs)
+converted-marked : (d : FixedTable) (e : Bool) (bs : List ℕ) → Marked e (characters_in d (cells d bs)) (converted d e bs)
 converted-marked d e bs =
     let P : Bool → Type 0 = λ x. Marked x (characters_in d (cells d bs)) (converted d e bs) in
     subst P (first_same e) (text-all d (first_way e) (cells d bs) (all-cells d bs))
 
-pub converted-text : (d : Table) (e : Bool) (bs : List ℕ) → IsText e (converted d e bs)
+pub converted-text : (d : FixedTable) (e : Bool) (bs : List ℕ) → IsText e (converted d e bs)
 converted-text d e bs = text_of e (characters_in d (cells d bs)) (converted d e bs) (converted-marked d e bs)
 
-pub converted-lines : (d : Table) (e : Bool) (bs : List ℕ) → KeepsLines d e bs (converted d e bs)
+pub converted-lines : (d : FixedTable) (e : Bool) (bs : List ℕ) → KeepsLines d e bs (converted d e bs)
 converted-lines d e bs =
     let m = converted-marked d e bs in
     record {
@@ -317,7 +317,7 @@ converted-lines d e bs =
 
 -- ---- few bytes go out
 
-few-printed : (t : Table) (w : Way) (cs : List Cell) → length (printed t w cs) ≤ 4 * sizes cs + owed w
+few-printed : (t : FixedTable) (w : Way) (cs : List Cell) → length (printed t w cs) ≤ 4 * sizes cs + owed w
 few-printed t w [] = omega arith
 few-printed t w (c ∷ cs) =
     let one = few-drawn t w c in
@@ -330,7 +330,7 @@ owed_first : (e : Bool) → owed (first_way e) ≡ 0
 owed_first true = refl
 owed_first false = refl
 
-pub converted-few : (d : Table) (e : Bool) (bs : List ℕ) → length (converted d e bs) ≤ 4 * length bs
+pub converted-few : (d : FixedTable) (e : Bool) (bs : List ℕ) → length (converted d e bs) ≤ 4 * length bs
 converted-few d e bs =
     let few = few-printed d (first_way e) (cells d bs) in
     let none = owed_first e in

@@ -8,7 +8,7 @@ use Rattle.std.proofs.lemmas.Bool.Decides.{nat_tests}
 use Rattle.nr_vectors.specs.Cell.{is_plain}
 use Rattle.nr_vectors.specs.declared.cell.Look.{Look}
 use Rattle.nr_vectors.specs.declared.cell.Look.TheVariants.{Plain, Under, Bold}
-use Rattle.utf8_characters.specs.declared.table.Table.{Table}
+use Rattle.utf8_characters.specs.declared.table.FixedTable.{FixedTable}
 use Rattle.utf8_characters.specs.Tables.{characters, if_any, character_of, byte_of}
 use Rattle.utf8_characters.proofs.Laws.{character_back}
 use Rattle.utf8_converter.specs.declared.reader.Way.{Way}
@@ -28,7 +28,7 @@ high_by : (x : Bool) (o : Option ℕ) (c : ℕ) → (if x then None else o) ≡ 
 high_by true o c p = absurd (let never : None ≡ Some c = p in cc)
 high_by false o c p = refl
 
-high : (t : Table) (b c : ℕ) → character_of t b ≡ Some c → nat_lt b 128 ≡ false
+high : (t : FixedTable) (b c : ℕ) → character_of t b ≡ Some c → nat_lt b 128 ≡ false
 high t b c p = high_by (nat_lt b 128) (if_any (slice_get (characters t) (b - 128))) c p
 
 high_hidden : (b : ℕ) → nat_lt b 128 ≡ false → is_shown b ≡ false
@@ -44,7 +44,7 @@ shown_other : (b : ℕ) → is_shown b ≡ true → (b == 8) ≡ false
 shown_other b p = grind (arith, nat_tests)
 
 -- what a byte is that stands for a character
-record Stood (t : Table) (c b : ℕ) : Type 0 where
+record Stood (t : FixedTable) (c b : ℕ) : Type 0 where
   other : (b == 8) ≡ false
   means : character_for t b ≡ Some c
   far : nat_lt (code " ") c ≡ true → nat_lt (code " ") b ≡ true
@@ -57,7 +57,7 @@ option_not : (x : Bool) (o p : Option ℕ) → x ≡ false → (if x then o else
 option_not true o p e = absurd (let never : true ≡ false = e in cc)
 option_not false o p e = refl
 
-stood_by : (x : Bool) (t : Table) (c b : ℕ) → is_shown c ≡ x → (if x then Some c else byte_of t c) ≡ Some b → Stood t c b
+stood_by : (x : Bool) (t : FixedTable) (c b : ℕ) → is_shown c ≡ x → (if x then Some c else byte_of t c) ≡ Some b → Stood t c b
 stood_by true t c b e p =
     let P : ℕ → Type 0 = λ k. Stood t c k in
     subst P (some_same c b p) (record { other = shown_other c e; means = option_if (is_shown c) (Some c) (character_of t c) e; far = λ f. f })
@@ -66,10 +66,10 @@ stood_by false t c b e p =
     let above = high t b c back in
     record { other = high_other b above; means = option_not (is_shown b) (Some b) (character_of t b) (high_hidden b above) ∙ back; far = λ f. high_far b above }
 
-stood : (t : Table) (c b : ℕ) → byte_for t c ≡ Some b → Stood t c b
+stood : (t : FixedTable) (c b : ℕ) → byte_for t c ≡ Some b → Stood t c b
 stood t c b p = stood_by (is_shown c) t c b refl p
 
-stood_goes : (t : Table) (c b : ℕ) → Stood t c b → goes_out t b ≡ true
+stood_goes : (t : FixedTable) (c b : ℕ) → Stood t c b → goes_out t b ≡ true
 stood_goes t c b s = ap is_some s.means
 
 -- ---- a letter is read
@@ -88,7 +88,7 @@ cells-if : (x : Bool) (cs ds : List Cell) → x ≡ true → (if x then cs else 
 cells-if true cs ds p = refl
 cells-if false cs ds p = absurd (let never : false ≡ true = p in cc)
 
-plain_read : (t : Table) (b : ℕ) (rest : List ℕ) → goes_out t b ≡ true → begins_well rest → cells t (b ∷ rest) ≡ Once b ∷ cells t rest
+plain_read : (t : FixedTable) (b : ℕ) (rest : List ℕ) → goes_out t b ≡ true → begins_well rest → cells t (b ∷ rest) ≡ Once b ∷ cells t rest
 plain_read t b [] goes well = cells-if (goes_out t b) (Once b ∷ []) [] goes
 plain_read t b (c ∷ rest) goes well =
     apart-next t b c rest well ∙ ap (λ (cs : List Cell). cs ++ cells t (c ∷ rest)) (cells-if (goes_out t b) (Once b ∷ []) [] goes)
@@ -108,7 +108,7 @@ and_both : (x y : Bool) → x ≡ true → y ≡ true → x && y ≡ true
 and_both true y p q = q
 and_both false y p q = p
 
-letter_read : (look : Look) (t : Table) (b : ℕ) (rest : List ℕ) → goes_out t b ≡ true → (is_plain look || nat_lt (code " ") b) ≡ true → begins_well rest
+letter_read : (look : Look) (t : FixedTable) (b : ℕ) (rest : List ℕ) → goes_out t b ≡ true → (is_plain look || nat_lt (code " ") b) ≡ true → begins_well rest
     → cells t (struck look b ++ rest) ≡ cell_of look b ∷ cells t rest
 unfolding cell_of
 letter_read Plain t b rest goes seen well = plain_read t b rest goes well
@@ -150,7 +150,7 @@ and_second true y p = p
 and_second false y p = absurd (let never : false ≡ true = p in cc)
 
 -- what is read of the bytes of a text
-record IsRead (t : Table) (text : List Letter) (bytes : List ℕ) : Type 0 where
+record IsRead (t : FixedTable) (text : List Letter) (bytes : List ℕ) : Type 0 where
   well : begins_well bytes
   characters_are : characters_in t (cells t bytes) ≡ plain_text text
   plain : (w : Way) → is_shut w ≡ true → all_plain text ≡ true → printed t w (cells t bytes) ≡ encode_utf8_all (plain_text text)
@@ -160,13 +160,13 @@ seen_by Plain c b far p = refl
 seen_by Under c b far p = far p
 seen_by Bold c b far p = far p
 
-top_shows : (look : Look) (t : Table) (c b : ℕ) (cs : List Cell) → character_for t b ≡ Some c → characters_in t (cell_of look b ∷ cs) ≡ c ∷ characters_in t cs
+top_shows : (look : Look) (t : FixedTable) (c b : ℕ) (cs : List Cell) → character_for t b ≡ Some c → characters_in t (cell_of look b ∷ cs) ≡ c ∷ characters_in t cs
 unfolding cell_of
 top_shows Plain t c b cs is = ap (λ (o : Option ℕ). listed o ++ characters_in t cs) is
 top_shows Under t c b cs is = ap (λ (o : Option ℕ). listed o ++ characters_in t cs) is
 top_shows Bold t c b cs is = ap (λ (o : Option ℕ). listed o ++ characters_in t cs) is
 
-plain_out : (look : Look) (t : Table) (c b : ℕ) (cs : List Cell) (w : Way) (out : List ℕ) → is_plain look ≡ true → is_shut w ≡ true → character_for t b ≡ Some c → printed t w cs ≡ out
+plain_out : (look : Look) (t : FixedTable) (c b : ℕ) (cs : List Cell) (w : Way) (out : List ℕ) → is_plain look ≡ true → is_shut w ≡ true → character_for t b ≡ Some c → printed t w cs ≡ out
     → printed t w (cell_of look b ∷ cs) ≡ encode_utf8 c ++ out
 unfolding cell_of
 plain_out Plain t c b cs w out p shut is rest =
@@ -176,7 +176,7 @@ plain_out Plain t c b cs w out p shut is rest =
 plain_out Under t c b cs w out p shut is rest = absurd (let never : false ≡ true = p in cc)
 plain_out Bold t c b cs w out p shut is rest = absurd (let never : false ≡ true = p in cc)
 
-is-read : (t : Table) (text : List Letter) (bytes : List ℕ) → all_look text ≡ true → bytes_for t text ≡ Some bytes → IsRead t text bytes
+is-read : (t : FixedTable) (text : List Letter) (bytes : List ℕ) → all_look text ≡ true → bytes_for t text ≡ Some bytes → IsRead t text bytes
 is-read t [] bytes looks p =
     let none : [] ≡ bytes = some_list [] bytes p in
     let P : List ℕ → Type 0 = λ xs. IsRead t [] xs in
@@ -202,7 +202,7 @@ first_shut : (e : Bool) → is_shut (first_way e) ≡ true
 first_shut true = refl
 first_shut false = refl
 
-pub turns-back : (t : Table) → TurnsBack t
+pub turns-back : (t : FixedTable) → TurnsBack t
 turns-back t e text bytes looks p =
     let read = is-read t text bytes looks p in
     record { characters = read.characters_are; plain = λ all. read.plain (first_way e) (first_shut e) all }

@@ -5,7 +5,7 @@ use Rattle.std.specs.Char.{encode_utf8}
 use Rattle.nr_vectors.specs.Cell.{is_under}
 use Rattle.nr_vectors.specs.declared.cell.Look.{Look}
 use Rattle.nr_vectors.specs.declared.cell.Look.TheVariants.{Plain, Under, Bold}
-use Rattle.utf8_characters.specs.declared.table.Table.{Table}
+use Rattle.utf8_characters.specs.declared.table.FixedTable.{FixedTable}
 use Rattle.utf8_characters.specs.Tables.{character_of}
 use Rattle.utf8_converter.specs.declared.reader.Way.{Way}
 use Rattle.utf8_converter.specs.declared.reader.Way.TheVariants.{Backspaces, Escapes}
@@ -17,14 +17,14 @@ abbrev pub is_shown : ℕ → Bool
 is_shown b = (b == code "\n") || (nat_le (code " ") b && nat_lt b 127)
 
 -- the character that a byte goes out as, of ASCII or of the table; another byte is dropped
-abbrev pub character_for : Table → ℕ → Option ℕ
+abbrev pub character_for : FixedTable → ℕ → Option ℕ
 character_for table b = if is_shown b then Some b else character_of table b
 
-abbrev pub goes_out : Table → ℕ → Bool
+abbrev pub goes_out : FixedTable → ℕ → Bool
 goes_out table b = is_some (character_for table b)
 
 -- blanks and newlines go out and show nothing
-abbrev pub shows : Table → ℕ → Bool
+abbrev pub shows : FixedTable → ℕ → Bool
 shows table b = nat_lt (code " ") b && goes_out table b
 
 -- ---- bytes are read into cells
@@ -35,14 +35,14 @@ pub data Cell : Type 0 where
   Over : ℕ → ℕ → Cell
 
 -- a byte that shows is struck over itself, or over `_`
-abbrev pub strikes : Table → ℕ → ℕ → Bool
+abbrev pub strikes : FixedTable → ℕ → ℕ → Bool
 strikes table a b = ((a == b) || (a == code "_")) && shows table b
 
-abbrev pub alone : Table → ℕ → List Cell
+abbrev pub alone : FixedTable → ℕ → List Cell
 alone table b = if goes_out table b then Once b ∷ [] else []
 
 -- a backspace strikes the byte after it over that before it, or is dropped
-abbrev pub cells : Table → List ℕ → List Cell
+abbrev pub cells : FixedTable → List ℕ → List Cell
 cells table [] = []
 cells table (a ∷ []) = alone table a
 cells table (a ∷ b ∷ []) = alone table a ++ alone table b
@@ -90,10 +90,10 @@ if_spelled None = []
 if_spelled (Some c) = encode_utf8 c
 
 -- a byte's character, in UTF-8
-abbrev pub text : Table → ℕ → List ℕ
+abbrev pub text : FixedTable → ℕ → List ℕ
 text table b = if_spelled (character_for table b)
 
-abbrev pub drawn : Table → Way → Cell → List ℕ
+abbrev pub drawn : FixedTable → Way → Cell → List ℕ
 drawn table way (Once b) = turning way Plain ++ text table b
 drawn table Backspaces (Over a b) = text table a ++ 8 ∷ text table b
 drawn table (Escapes before) (Over a b) =
@@ -109,7 +109,7 @@ way_after Backspaces (Over a b) = Backspaces
 way_after (Escapes before) (Over a b) = Escapes (look_of before (Over a b))
 
 -- a look that is open ends after all cells
-abbrev pub printed : Table → Way → List Cell → List ℕ
+abbrev pub printed : FixedTable → Way → List Cell → List ℕ
 printed table way [] = turning way Plain
 printed table way (c ∷ cs) = drawn table way c ++ printed table (way_after way c) cs
 
@@ -118,7 +118,7 @@ printed table way (c ∷ cs) = drawn table way c ++ printed table (way_after way
 abbrev pub first_way : Bool → Way
 first_way escapes = if escapes then Escapes Plain else Backspaces
 
-abbrev pub converted : Table → Bool → List ℕ → List ℕ
+abbrev pub converted : FixedTable → Bool → List ℕ → List ℕ
 converted table escapes input = printed table (first_way escapes) (cells table input)
 
 -- how many bytes are in no cell
@@ -130,5 +130,5 @@ abbrev pub sizes : List Cell → ℕ
 sizes [] = 0
 sizes (c ∷ cs) = size c + sizes cs
 
-abbrev pub strays_of : Table → List ℕ → ℕ
+abbrev pub strays_of : FixedTable → List ℕ → ℕ
 strays_of table input = length input - sizes (cells table input)

@@ -4,8 +4,8 @@ use Rattle.std.specs.Prelude.{◌≡◌, ℕ, zero, suc, ◌+◌, ◌*◌, ◌%�
 use Rattle.std.specs.List.{sum_by}
 use Rattle.nr_units.specs.Source.{Supply}
 use Rattle.document_stages.specs.Running.{Ends}
-use Rattle.utf8_characters.specs.declared.table.Table.{Table}
-use Rattle.utf8_characters.specs.declared.table.Table.TheVariants.{English, Latin, Cyrillic, Greek, Latin1}
+use Rattle.utf8_characters.specs.declared.table.FixedTable.{FixedTable}
+use Rattle.utf8_characters.specs.declared.table.FixedTable.TheVariants.{English, Latin, Cyrillic, Greek, Latin1}
 use Rattle.utf8_characters.specs.OneCell.{is_within}
 use Rattle.utf8_characters.specs.Tables.{characters}
 use Rattle.utf8_converter.specs.declared.names.TheConstants.{NAMES}
@@ -57,26 +57,26 @@ occurrences page (suc n) c = occurrences page n c + one_if (character_at page n 
 -- ---- the table
 
 -- how many of a page's characters a table has
-abbrev pub covered : List ℕ → Table → ℕ
+abbrev pub covered : List ℕ → FixedTable → ℕ
 covered page table = sum_by (λ (c : ℕ). occurrences page (length page) c) (characters table)
 
 -- the second where it has more, and else the first
-abbrev pub better : List ℕ → Table → Table → Table
+abbrev pub better : List ℕ → FixedTable → FixedTable → FixedTable
 better page first second = if nat_lt (covered page first) (covered page second) then second else first
 
 -- a page of ASCII may name signs, of which `english` has most
-abbrev pub if_any : ℕ → Table → Table
+abbrev pub if_any : ℕ → FixedTable → FixedTable
 if_any count table = if count == 0 then English else table
 
 -- The one that has most; where several have as many, the first of these: `english` draws boxes and `latin` does not.
-abbrev pub fullest : List ℕ → Table
+abbrev pub fullest : List ℕ → FixedTable
 fullest page = better page (better page (better page English Latin) Cyrillic) Greek
 
-abbrev pub chosen : List ℕ → Table
+abbrev pub chosen : List ℕ → FixedTable
 chosen page = if_any (covered page (fullest page)) (fullest page)
 
 -- one of those to choose from
-abbrev pub IsChoice : Table → Type 0
+abbrev pub IsChoice : FixedTable → Type 0
 IsChoice English = Unit {0}
 IsChoice Latin = Unit {0}
 IsChoice Cyrillic = Unit {0}
@@ -84,15 +84,15 @@ IsChoice Greek = Unit {0}
 IsChoice Latin1 = ⊥
 
 -- none has more of the page's characters
-abbrev pub IsBest : List ℕ → Table → Type 0
-IsBest page table = (other : Table) → IsChoice other → covered page other ≤ covered page table
+abbrev pub IsBest : List ℕ → FixedTable → Type 0
+IsBest page table = (other : FixedTable) → IsChoice other → covered page other ≤ covered page table
 
 -- so many bytes of a text count
 abbrev pub looked_at : ℕ
 looked_at = 65536
 
 -- what is emitted of a source with these bytes to come
-abbrev pub Chooses : {E : Type 0} → Option Supply → Result Table E → Type 0
+abbrev pub Chooses : {E : Type 0} → Option Supply → Result FixedTable E → Type 0
 Chooses None result = ⊤
 Chooses (Some q) (Ok table) =
     (table ≡ chosen (take looked_at q.bytes)) × IsBest (take looked_at q.bytes) table
@@ -104,17 +104,17 @@ Chooses (Some q) (Err e) = Unit {0}
 abbrev pub Counts : List ℕ → ℕ → List ℕ → Type 0
 Counts page n counts = (c : ℕ) → c < length counts → get_or counts c 0 ≡ occurrences page n c
 
-abbrev pub covered_by : List ℕ → Table → ℕ
+abbrev pub covered_by : List ℕ → FixedTable → ℕ
 covered_by counts table = sum_by (λ (c : ℕ). get_or counts c 0) (characters table)
 
-abbrev pub better_by : List ℕ → Table → Table → Table
+abbrev pub better_by : List ℕ → FixedTable → FixedTable → FixedTable
 better_by counts first second =
     if nat_lt (covered_by counts first) (covered_by counts second) then second else first
 
-abbrev pub fullest_by : List ℕ → Table
+abbrev pub fullest_by : List ℕ → FixedTable
 fullest_by counts = better_by counts (better_by counts (better_by counts English Latin) Cyrillic) Greek
 
-abbrev pub chosen_by : List ℕ → Table
+abbrev pub chosen_by : List ℕ → FixedTable
 chosen_by counts = if_any (covered_by counts (fullest_by counts)) (fullest_by counts)
 
 -- these bytes came

@@ -1,7 +1,7 @@
 -- What stands in the cells of what comes and of what goes out, and the lines of these.
 use Prim.Native.Char.{code}
 use Rattle.std.specs.Prelude.{◌≡◌, ℕ, ◌+◌, List, [], ◌∷◌, ◌++◌, Bool, ◌==◌, if◌then◌else◌, Option, None, Some}
-use Rattle.utf8_characters.specs.declared.table.Table.{Table}
+use Rattle.utf8_characters.specs.declared.table.FixedTable.{FixedTable}
 use Rattle.utf8_converter.specs.Cells.{Cell, cells, character_for, top}
 use Rattle.utf8_converter.specs.Text.{Part, Printed, Overstruck, Begin, End, IsText}
 
@@ -12,7 +12,7 @@ listed None = []
 listed (Some c) = c ∷ []
 
 -- the characters of cells, of struck ones those that show; newlines are among them
-abbrev pub characters_in : Table → List Cell → List ℕ
+abbrev pub characters_in : FixedTable → List Cell → List ℕ
 characters_in table [] = []
 characters_in table (c ∷ cs) = listed (character_for table (top c)) ++ characters_in table cs
 
@@ -41,7 +41,7 @@ cells_of_lines [] = 0 ∷ []
 cells_of_lines (c ∷ cs) = if c == code "\n" then 0 ∷ cells_of_lines cs else one_more (cells_of_lines cs)
 
 -- a text for a terminal, of the characters that came, and so each line has as many cells
-pub record KeepsLines (table : Table) (escapes : Bool) (bytes output : List ℕ) : Type 0 where
+pub record KeepsLines (table : FixedTable) (escapes : Bool) (bytes output : List ℕ) : Type 0 where
   pub text : IsText escapes output
   pub characters : bare text.parts ≡ characters_in table (cells table bytes)
   pub lines : cells_of_lines (bare text.parts) ≡ cells_of_lines (characters_in table (cells table bytes))

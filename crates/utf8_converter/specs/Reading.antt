@@ -2,7 +2,7 @@
 use Rattle.std.specs.Prelude.{ℕ, ◌+◌, List, [], ◌∷◌, ◌++◌, Bool, ◌==◌, if◌then◌else◌}
 use Rattle.nr_vectors.specs.declared.cell.Look.{Look}
 use Rattle.nr_vectors.specs.declared.cell.Look.TheVariants.{Plain}
-use Rattle.utf8_characters.specs.declared.table.Table.{Table}
+use Rattle.utf8_characters.specs.declared.table.FixedTable.{FixedTable}
 use Rattle.utf8_converter.specs.Cells.{Cell, Once, Over, drawn, first_way, goes_out, shows, strikes, turning, way_after, way_to}
 use Rattle.utf8_converter.specs.declared.reader.Half.{Half}
 use Rattle.utf8_converter.specs.declared.reader.Half.TheVariants.{Nothing, Byte, Backspaced}
@@ -26,7 +26,7 @@ abbrev pub then_emitted : Emitted → (Reader → Emitted) → Emitted
 then_emitted t next = preceded t.bytes t.strays (next t.reader)
 
 -- nothing was read
-abbrev pub first_reader : Table → Bool → Reader
+abbrev pub first_reader : FixedTable → Bool → Reader
 first_reader table escapes = record { half = Nothing; way = first_way escapes; table = table }
 
 abbrev pub with_half : Half → Reader → Reader

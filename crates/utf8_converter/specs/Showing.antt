@@ -4,8 +4,8 @@ use Rattle.std.specs.Io.KnownBytes.{Appends}
 use Rattle.nr_units.specs.Failures.{SinkFailures, next_count}
 use Rattle.nr_units.specs.Sink.{AppendsPrefix}
 use Rattle.document_stages.specs.Running.{Flushes, at_most}
-use Rattle.utf8_characters.specs.declared.table.Table.{Table}
-use Rattle.utf8_characters.specs.declared.table.Table.TheVariants.{English, Latin, Cyrillic, Greek, Latin1}
+use Rattle.utf8_characters.specs.declared.table.FixedTable.{FixedTable}
+use Rattle.utf8_characters.specs.declared.table.FixedTable.TheVariants.{English, Latin, Cyrillic, Greek, Latin1}
 use Rattle.utf8_converter.specs.Cells.{converted, strays_of}
 use Rattle.utf8_converter.specs.Lines.{KeepsLines}
 use Rattle.utf8_converter.specs.Reading.{fed, first_reader}
@@ -15,12 +15,12 @@ use Rattle.utf8_converter.specs.declared.reader.Reader.{Reader}
 
 -- the table, whether looks go out by sequences, and what the other sink held and how many of its puts had failed
 pub record Making : Type 0 where
-  pub table : Table
+  pub table : FixedTable
   pub escapes : Bool
   pub begun : Option (List ℕ)
   pub failed : ℕ
 
-abbrev pub number_of : Table → ℕ
+abbrev pub number_of : FixedTable → ℕ
 number_of English = 1
 number_of Latin = 2
 number_of Cyrillic = 3

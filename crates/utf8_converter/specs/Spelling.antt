@@ -1,7 +1,7 @@
 -- What goes out of bytes that stand together in whole cells.
 use Rattle.std.specs.Prelude.{◌≡◌, ℕ, ◌+◌, ◌-◌, ◌*◌, ◌/◌, ◌<◌, ◌≤◌, List, [], ◌∷◌, ◌++◌, length, take, drop, get_or, Bool, true, false, not, ◌==◌, ◌&&◌, ◌||◌, nat_lt, if◌then◌else◌, Option, None, Some}
 use Rattle.nr_vectors.specs.declared.cell.Look.TheVariants.{Plain}
-use Rattle.utf8_characters.specs.declared.table.Table.{Table}
+use Rattle.utf8_characters.specs.declared.table.FixedTable.{FixedTable}
 use Rattle.utf8_converter.specs.declared.reader.Half.{Half}
 use Rattle.utf8_converter.specs.declared.reader.Half.TheVariants.{Nothing, Byte, Backspaced}
 use Rattle.utf8_converter.specs.declared.reader.Way.{Way}
@@ -13,10 +13,10 @@ use Rattle.utf8_converter.specs.Reading.{Emitted, fed, put_alone, then_emitted, 
 use Rattle.utf8_converter.specs.Shapes.{is_shaped, may_stand}
 
 -- What goes out of a byte in a cell that is whole: its text, and the backspace of a struck cell.
-abbrev pub byte_of : Table → ℕ → List ℕ
+abbrev pub byte_of : FixedTable → ℕ → List ℕ
 byte_of table b = if b == 8 then 8 ∷ [] else text table b
 
-abbrev pub bytes_of : Table → List ℕ → List ℕ
+abbrev pub bytes_of : FixedTable → List ℕ → List ℕ
 bytes_of table [] = []
 bytes_of table (b ∷ bs) = byte_of table b ++ bytes_of table bs
 
@@ -34,14 +34,14 @@ abbrev pub count_of : List ℕ → ℕ
 count_of s = get_or s 3 0 / 64
 
 -- these go out of a byte
-pub record IsSpelled (table : Table) (b : ℕ) (s : List ℕ) : Type 0 where
+pub record IsSpelled (table : FixedTable) (b : ℕ) (s : List ℕ) : Type 0 where
   pub prefix : take (count_of s) s ≡ byte_of table b
   pub count : length (byte_of table b) ≡ count_of s
   pub four : length s ≡ 4
   pub few : count_of s ≤ 3
 
 -- of the first n bytes there are
-pub record Spells (table : Table) (n : ℕ) (all : List (List ℕ)) (whole : Bool) : Type 0 where
+pub record Spells (table : FixedTable) (n : ℕ) (all : List (List ℕ)) (whole : Bool) : Type 0 where
   pub each : (b : ℕ) → b < n → IsSpelled table b (get_or all b [])
   -- each beyond ASCII has a character
   pub beyond : whole ≡ true → (b : ℕ) → b < n → 128 ≤ b → 0 < count_of (get_or all b [])
@@ -100,7 +100,7 @@ pub record Makes (r s : Reader) (bytes out : List ℕ) : Type 0 where
   pub few : length out + owed s.way ≤ 4 * length bytes + owed r.way
 
 -- whether a cell begins with this byte: what is half read is whole then, if anything is
-abbrev pub begins_by : Table → Half → ℕ → Bool
+abbrev pub begins_by : FixedTable → Half → ℕ → Bool
 begins_by table Nothing b = true
 begins_by table (Byte a) b = not (b == 8) && goes_out table a
 begins_by table (Backspaced a) b = false
@@ -114,14 +114,14 @@ pub record IsFresh (r : Reader) : Type 0 where
   pub shut : is_shut r.way ≡ true
 
 -- what is half read after cells: their last byte, if it may still be struck over
-abbrev pub half_after : Table → List ℕ → Half
+abbrev pub half_after : FixedTable → List ℕ → Half
 half_after table bytes =
     if ((get_or bytes (length bytes - 2) 0 == 8) && nat_lt 1 (length bytes))
     || not (shows table (get_or bytes (length bytes - 1) 0))
     then Nothing else Byte (get_or bytes (length bytes - 1) 0)
 
 -- what goes out of it
-abbrev pub half_text : Table → Half → List ℕ
+abbrev pub half_text : FixedTable → Half → List ℕ
 half_text table Nothing = []
 half_text table (Byte b) = byte_of table b
 half_text table (Backspaced b) = []
@@ -171,7 +171,7 @@ pub record IsChunk (s : Spelling) (r : Reader) (bytes : List ℕ) : Type 0 where
   pub some : AllSpelled s.all (take 32 bytes)
 
 -- a prefix of a chunk that was put up to here: it ends in a whole cell, and what is left of the chunk is taken out
-pub record Cuts (table : Table) (bytes : List ℕ) (to taken end : ℕ) : Type 0 where
+pub record Cuts (table : FixedTable) (bytes : List ℕ) (to taken end : ℕ) : Type 0 where
   pub few : taken ≤ 32
   pub last : (k : ℕ) → k + 1 ≡ taken → (get_or bytes k 0 == 8) ≡ false
   pub left : end + length (bytes_of table (drop taken (take 32 bytes))) ≡ to

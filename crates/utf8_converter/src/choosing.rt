@@ -8,7 +8,7 @@ ghost use Rattle.document_stages.specs.Running.{Ends};
 use super::names::{NAMES, Name};
 use nr_units::source::{Fault, Source};
 use nr_vectors::slice_vec::SliceVec;
-use utf8_characters::Table;
+use utf8_characters::FixedTable;
 
 /// How many bytes of a page are looked at.
 pub const LOOKED_AT: usize = 65_536;
@@ -138,14 +138,14 @@ fn sum_of(characters: &[char; 128], counts: &[u32]) -> u64
 }
 
 /// How many characters of the page that was counted a table has.
-fn covered(table: Table, counts: &[u32]) -> u64
+fn covered(table: FixedTable, counts: &[u32]) -> u64
     ensures { result ≡ specs.covered_by counts.now table }
 {
     sum_of(table.characters(), counts)
 }
 
 /// The second of two tables where it has more of the characters, and else the first.
-fn better(first: Table, second: Table, counts: &[u32]) -> Table
+fn better(first: FixedTable, second: FixedTable, counts: &[u32]) -> FixedTable
     ensures { result ≡ specs.better_by counts.now first second }
 {
     if covered(first, counts) < covered(second, counts) {
@@ -156,24 +156,24 @@ fn better(first: Table, second: Table, counts: &[u32]) -> Table
 }
 
 /// The table that has most of the characters.
-fn fullest(counts: &[u32]) -> Table
+fn fullest(counts: &[u32]) -> FixedTable
     ensures { result ≡ specs.fullest_by counts.now }
 {
-    let european = better(Table::English, Table::Latin, counts);
+    let european = better(FixedTable::English, FixedTable::Latin, counts);
     better(
-        better(european, Table::Cyrillic, counts),
-        Table::Greek,
+        better(european, FixedTable::Cyrillic, counts),
+        FixedTable::Greek,
         counts,
     )
 }
 
 /// The table of a page that was counted.
-fn chosen(counts: &[u32]) -> Table
+fn chosen(counts: &[u32]) -> FixedTable
     ensures { result ≡ specs.chosen_by counts.now }
 {
     let table = fullest(counts);
     if covered(table, counts) == 0 {
-        Table::English
+        FixedTable::English
     } else {
         table
     }
@@ -244,7 +244,11 @@ fn read_prefix<R: Source>(input: &mut R, page: &mut SliceVec<'_, u8>) -> Result<
 ///
 /// Proved: The table that is chosen for a page has, of the first 65,536 bytes, at least as many characters as any
 /// other to choose from: those that stand there, and those of the names in `NAMES` (names.rt).
-pub fn choose<R: Source>(input: &mut R, page: &mut [u8], counts: &mut [u32]) -> Result<Table, Fault>
+pub fn choose<R: Source>(
+    input: &mut R,
+    page: &mut [u8],
+    counts: &mut [u32],
+) -> Result<FixedTable, Fault>
     requires page { length page.old ≡ 65536 }
     requires counts { length counts.old ≡ 10240 }
     ensures value { specs.Chooses (R.supply input.old) result }

@@ -22,5 +22,5 @@ pub use choosing::{CHARACTERS, LOOKED_AT, choose};
 pub use document_stages::RunEnd;
 pub use running::convert;
 pub use showing::Shown;
-pub use staged::Turner;
+pub use staged::Utf8Converter;
 pub use undoing::byte_for;

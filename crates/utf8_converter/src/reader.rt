@@ -5,7 +5,7 @@ ghost use Rattle.utf8_converter.specs.Reading.{first_reader, turned};
 ghost use Rattle.utf8_converter.specs.Spelling.{Puts, is_shut, keeps_backspaces};
 
 use nr_vectors::cell::Look;
-use utf8_characters::Table;
+use utf8_characters::FixedTable;
 
 /// What was read of a cell.
 #[derive(Clone, Copy)]
@@ -35,7 +35,7 @@ pub(crate) struct Reader {
     /// How looks go out.
     pub way: Way,
     /// What bytes from 128 on are.
-    pub table: Table,
+    pub table: FixedTable,
 }
 
 /// Whether a byte is a character of ASCII that goes out.
@@ -101,7 +101,7 @@ fn put_text(text: &[u8], room: &mut [u8], end: usize) -> usize
 
 impl Reader {
     /// Nothing was read.
-    pub(crate) fn new(table: Table, escapes: bool) -> Reader
+    pub(crate) fn new(table: FixedTable, escapes: bool) -> Reader
         ensures { result ≡ first_reader table escapes }
     {
         Reader {

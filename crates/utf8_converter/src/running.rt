@@ -4,11 +4,11 @@ ghost use Rattle.nr_units.specs.Failures.{put_counted_if};
 ghost use Rattle.document_stages.specs.Running.{TellsReads, is_write_fault};
 ghost use Rattle.utf8_converter.specs.Running.{Ran};
 
-use super::staged::Turner;
+use super::staged::Utf8Converter;
 use document_stages::{RunEnd, run};
 use nr_units::sink::Sink;
 use nr_units::source::Source;
-use utf8_characters::Table;
+use utf8_characters::FixedTable;
 
 /// Turns what the input gives into UTF-8, and puts it to the output, which is not flushed. Bytes from 128 on are
 /// characters of the table; with `escapes` looks stand between escape sequences. The buffer, of 1536 bytes
@@ -35,7 +35,7 @@ use utf8_characters::Table;
 pub fn convert<R: Source, W: Sink>(
     input: &mut R,
     output: &mut W,
-    table: Table,
+    table: FixedTable,
     escapes: bool,
     buffer: &mut [u8],
     strays: &mut u64,
@@ -47,7 +47,7 @@ pub fn convert<R: Source, W: Sink>(
     ensures read_faults { TellsReads result (R.failures input.old) (R.failures input.new) }
     ensures write_faults { W.failures output.new ≡ put_counted_if (is_write_fault result) (W.failures output.old) }
 {
-    let mut text = Turner::new(table, escapes);
+    let mut text = Utf8Converter::new(table, escapes);
     let outcome = run(&mut text, input, output, buffer);
     *strays = text.strays();
     outcome

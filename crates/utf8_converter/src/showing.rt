@@ -12,7 +12,7 @@ use nr_units::sink::Sink;
 use nr_units::source::{Fault, next_count};
 use std::marker::Model;
 use std::snapshot::Snapshot;
-use utf8_characters::Table;
+use utf8_characters::FixedTable;
 
 /// Takes bytes of a table, as `convert` does, and puts what they come to into another sink. Once that failed, each `put`
 /// fails.
@@ -26,7 +26,7 @@ pub struct Shown<'a, W: Sink> {
     output: W,
     begun: Snapshot<W>,
     came: Came,
-    table: Table,
+    table: FixedTable,
     escapes: bool,
     waiting: Waiting<'a>,
     broken: bool,
@@ -63,7 +63,7 @@ impl<'a, W: Sink> Model for Shown<'a, W> {
 impl<'a, W: Sink> Shown<'a, W> {
     /// Nothing came yet. Bytes from 128 on are characters of the table; with `escapes` looks stand between escape sequences.
     /// In the room waits what goes out; what it held is of no account.
-    pub fn over(output: W, table: Table, escapes: bool, room: &'a mut [u8]) -> Self
+    pub fn over(output: W, table: FixedTable, escapes: bool, room: &'a mut [u8]) -> Self
         ensures held { result.bytes ≡ made_of (record {
           table = table;
           escapes = escapes;

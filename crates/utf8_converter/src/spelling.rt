@@ -4,7 +4,7 @@ ghost use Rattle.utf8_converter.specs.Spelling as specs;
 
 use super::reader::{Reader, is_shown};
 use super::shapes::{CHUNK, are_low};
-use utf8_characters::Table;
+use utf8_characters::FixedTable;
 
 /// How many of a chunk are looked at by themselves where not all are of ASCII.
 const PIECE: usize = 8;
@@ -37,7 +37,7 @@ fn count_of(one: &Spelled) -> usize
 }
 
 /// What goes out of a byte in a cell that is whole.
-fn spell(table: Table, byte: u8) -> Spelled
+fn spell(table: FixedTable, byte: u8) -> Spelled
     ensures { specs.IsSpelled table byte result }
 {
     if is_shown(byte) || byte == b'\x08' {
@@ -62,7 +62,7 @@ fn is_covered(byte: usize, one: &Spelled) -> bool
 
 impl Spelling {
     /// That of a table.
-    pub(crate) fn new(table: Table) -> Spelling
+    pub(crate) fn new(table: FixedTable) -> Spelling
         ensures { specs.Spells table 256 result.all result.whole }
     {
         let mut all = [[0; 4]; 256];

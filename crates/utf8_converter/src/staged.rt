@@ -12,7 +12,7 @@ use super::reader::Reader;
 use super::spelling::{ROOM, Spelling};
 use document_stages::Stage;
 use nr_vectors::slice_vec::SliceVec;
-use utf8_characters::Table;
+use utf8_characters::FixedTable;
 
 /// The room that one turn needs.
 const MOST: usize = 1536;
@@ -20,9 +20,9 @@ const MOST: usize = 1536;
 /// Bytes of a table become UTF-8, as with `convert`.
 ///
 /// Proved: A text that is turned a part at a time comes to the same: what goes out of the parts, one after another,
-/// and of the end is `converted`, in whatever parts it comes. (`Turner` of utf8_converter)
+/// and of the end is `converted`, in whatever parts it comes. (`Utf8Converter` of utf8_converter)
 #[derive(Drop)]
-pub struct Turner {
+pub struct Utf8Converter {
     reader: Reader,
     spelling: Spelling,
     // At its beginning stands what comes of the bytes that were read last.
@@ -33,17 +33,17 @@ pub struct Turner {
     ghost counts: { strays < 2 ^ 64 },
 }
 
-impl Turner {
+impl Utf8Converter {
     /// A text begins. Bytes from 128 on are characters of the table; with `escapes` looks stand between escape sequences.
-    pub fn new(table: Table, escapes: bool) -> Turner
-        ensures says { ⟦<Turner as Stage>⟧.says result ≡ said (first_reader table escapes) }
-        ensures fits { ⟦<Turner as Stage>⟧.fits result ≡ fits_always }
-        ensures counts { ⟦<Turner as Stage>⟧.counts result ≡ counted 0 (first_reader table escapes) }
-        ensures wants { ⟦<Turner as Stage>⟧.wants result ≡ 1536 }
+    pub fn new(table: FixedTable, escapes: bool) -> Utf8Converter
+        ensures says { ⟦<Utf8Converter as Stage>⟧.says result ≡ said (first_reader table escapes) }
+        ensures fits { ⟦<Utf8Converter as Stage>⟧.fits result ≡ fits_always }
+        ensures counts { ⟦<Utf8Converter as Stage>⟧.counts result ≡ counted 0 (first_reader table escapes) }
+        ensures wants { ⟦<Utf8Converter as Stage>⟧.wants result ≡ 1536 }
         ensures reader { result.reader ≡ first_reader table escapes }
         ensures strays { result.strays ≡ 0 }
     {
-        Turner {
+        Utf8Converter {
             reader: Reader::new(table, escapes),
             spelling: Spelling::new(table),
             room: [0; ROOM],
@@ -53,7 +53,7 @@ impl Turner {
 
     /// How many bytes were dropped.
     pub fn strays(&self) -> u64
-        ensures counted { result ≡ ⟦<Turner as Stage>⟧.counts self.now false [] }
+        ensures counted { result ≡ ⟦<Utf8Converter as Stage>⟧.counts self.now false [] }
         ensures value { result ≡ self.now.strays }
     {
         self.strays
@@ -103,7 +103,7 @@ impl Turner {
     }
 }
 
-impl Stage for Turner {
+impl Stage for Utf8Converter {
     ghost use Rattle.std.specs.Prelude.{refl};
     ghost use Rattle.document_stages.specs.Pulling.{fits_always};
     ghost use Rattle.utf8_converter.specs.Staged.{counted, said};

@@ -6,16 +6,16 @@ ghost use Rattle.document_stages.specs.Running.{Flushes, PrefixAtErr, at_most};
 ghost use Rattle.utf8_converter.specs.Reading.{ended, first_reader};
 ghost use Rattle.utf8_converter.specs.Showing as specs;
 
-use super::staged::Turner;
+use super::staged::Utf8Converter;
 use nr_units::sink::Sink;
 use nr_units::source::Fault;
 use nr_vectors::slice_vec::SliceVec;
-use utf8_characters::Table;
+use utf8_characters::FixedTable;
 
 /// A text that is turned, and what waits to go out.
 #[derive(Drop)]
 pub(crate) struct Waiting<'a> {
-    turner: Turner,
+    turner: Utf8Converter,
     out: SliceVec<'a, u8>,
 }
 
@@ -53,13 +53,13 @@ fn emit<W: Sink>(bytes: &[u8], out: &mut SliceVec<'_, u8>, output: &mut W) -> Re
 
 impl<'a> Waiting<'a> {
     /// Nothing came yet.
-    pub(crate) fn new(table: Table, escapes: bool, out: &'a mut [u8]) -> Waiting<'a>
+    pub(crate) fn new(table: FixedTable, escapes: bool, out: &'a mut [u8]) -> Waiting<'a>
         ensures reader { result.turner.reader ≡ first_reader table escapes }
         ensures out { result.out.items ≡ [] }
         ensures strays { result.turner.strays ≡ 0 }
     {
         Waiting {
-            turner: Turner::new(table, escapes),
+            turner: Utf8Converter::new(table, escapes),
             out: SliceVec::over(out),
         }
     }

@@ -7,7 +7,7 @@ ghost use Rattle.utf8_own_characters.specs.Table.{Good};
 
 use super::cluster::Cluster;
 use super::counting::Count;
-use super::table::Table;
+use super::table::OwnTable;
 use nr_vectors::slice_vec::SliceVec;
 
 /// How many clusters of one column a table has at most.
@@ -93,14 +93,14 @@ pub fn choose(
     reported
 }
 
-impl<'a> Table<'a> {
+impl<'a> OwnTable<'a> {
     /// The table of what `choose` chose of these counts, which count each cluster once. The slots are those that `fill_slots` filled.
     pub fn chosen(
         counts: &[Count],
         narrow: &'a [Cluster],
         wide: &'a [Cluster],
         slots: &'a [u16],
-    ) -> Table<'a>
+    ) -> OwnTable<'a>
         requires cells { specs.choice narrow.now wide.now ≡ chosen nothing counts.now }
         requires once { is_once counts.now ≡ true }
         ensures narrow { result.narrow ≡ narrow.entry.now }
@@ -108,6 +108,6 @@ impl<'a> Table<'a> {
         ensures good { Good result }
     {
         let halves = halves_for(wide.len());
-        Table::over(narrow, wide, halves, slots)
+        OwnTable::over(narrow, wide, halves, slots)
     }
 }

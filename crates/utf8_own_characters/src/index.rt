@@ -109,7 +109,7 @@ fn put_all(slots: &mut [u16], cells: &[Cluster], first: usize) {
     }
 }
 
-/// Fills the slots, so that `Table::code` looks in the right place first. Twice as many slots as characters are enough.
+/// Fills the slots, so that `OwnTable::code` looks in the right place first. Twice as many slots as characters are enough.
 pub fn fill_slots(narrow: &[Cluster], wide: &[Cluster], slots: &mut [u16]) {
     for slot in slots.iter_mut() {
         *slot = 0;

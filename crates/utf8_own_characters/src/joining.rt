@@ -79,7 +79,7 @@ fn hear_mark(held: Option<Cluster>, mark: char) -> Heard
 ///
 /// Proved: The clusters of a text, their counts, the bytes of one and what a byte of a row shows are those of the
 /// definitions, wherever the slots say to look first; the bytes of a fixed table, as such a table, are those of
-/// utf8_characters (`fixed_tables_are_tables`). (`hear`, `count_cluster`, `Table::code`, `Table::read`, counting.rt,
+/// utf8_characters (`fixed_tables_are_tables`). (`hear`, `count_cluster`, `OwnTable::code`, `OwnTable::read`, counting.rt,
 /// table.rt, reading.rt)
 pub fn hear(held: Option<Cluster>, character: char) -> Heard
     ensures { result ≡ specs.hear held character }

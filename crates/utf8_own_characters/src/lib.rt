@@ -29,4 +29,4 @@ pub use listening::{Listened, Listener, begins_letter};
 pub use looking::{end_look, look_at, takes_place};
 pub use ranking::rank;
 pub use reading::Read;
-pub use table::{Code, Table};
+pub use table::{Code, OwnTable};

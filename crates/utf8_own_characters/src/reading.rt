@@ -3,7 +3,7 @@ ghost use Rattle.std.specs.Prelude.{◌≡◌};
 ghost use Rattle.utf8_own_characters.specs.Reading as specs;
 
 use super::cluster::Cluster;
-use super::table::Table;
+use super::table::OwnTable;
 
 /// What comes of a byte: blanks for what is no character, then maybe a cluster; and a lead that waits for its trail.
 #[derive(Clone, Copy, Debug, PartialEq, Eq)]
@@ -38,7 +38,7 @@ fn shows(cluster: Cluster) -> Read
     }
 }
 
-impl<'a> Table<'a> {
+impl<'a> OwnTable<'a> {
     /// A byte that is no half of a pair.
     #[inline]
     fn alone(&self, byte: u8) -> Read

@@ -20,14 +20,14 @@ pub enum Code {
 
 /// The characters of a page, over slices that are lent.
 #[derive(Drop)]
-pub struct Table<'a> {
+pub struct OwnTable<'a> {
     narrow: &'a [Cluster],
     wide: &'a [Cluster],
     halves: u8,
     slots: &'a [u16],
 }
 
-impl<'a> Model for Table<'a> {
+impl<'a> Model for OwnTable<'a> {
     ghost use Rattle.utf8_own_characters.specs.Table.{Characters};
 
     ghost Value = { Characters };
@@ -70,7 +70,7 @@ fn stands(cells: &[Cluster], place: usize, cluster: &Cluster) -> bool
     cell.is_same(cluster)
 }
 
-impl<'a> Table<'a> {
+impl<'a> OwnTable<'a> {
     /// The table of these characters, each of which stands once. So many bytes, the last ones, are halves of pairs. The slots, which
     /// `fill_slots` fills, only say where to look first.
     pub fn over(
@@ -78,10 +78,10 @@ impl<'a> Table<'a> {
         wide: &'a [Cluster],
         halves: u8,
         slots: &'a [u16],
-    ) -> Table<'a>
+    ) -> OwnTable<'a>
         ensures { result ≡ table_of (choice narrow.entry.now wide.entry.now) halves }
     {
-        Table {
+        OwnTable {
             narrow,
             wide,
             halves,

@@ -1,8 +1,8 @@
 -- Whether a page needs a table of its own, and which that is.
 use Prim.Native.Char.{code}
 use Rattle.std.specs.Prelude.{◌≡◌, ℕ, List, [], ◌∷◌, length, take, Bool, true, false, ◌==◌, ◌&&◌, ◌||◌, not, nat_le, if◌then◌else◌, is_some, Option, None, Some}
-use Rattle.utf8_characters.specs.declared.table.Table as fixed
-use Rattle.utf8_characters.specs.declared.table.Table.TheVariants.{English}
+use Rattle.utf8_characters.specs.declared.table.FixedTable as fixed
+use Rattle.utf8_characters.specs.declared.table.FixedTable.TheVariants.{English}
 use Rattle.utf8_characters.specs.Tables.{byte_of}
 use Rattle.preconv_converter.specs.Composed.{lacks_letter}
 use Rattle.utf8_own_characters.specs.declared.cluster.Cluster.{Cluster}
@@ -43,15 +43,15 @@ abbrev pub prefix_of : List ℕ → List ℕ
 prefix_of page = take 1048576 page
 
 -- a fixed table has characters without marks
-abbrev pub has : fixed.Table → Cluster → Bool
+abbrev pub has : fixed.FixedTable → Cluster → Bool
 has table c = is_same c (single c.letter) && is_some (byte_of table c.letter)
 
-abbrev pub has_all : fixed.Table → List Count → Bool
+abbrev pub has_all : fixed.FixedTable → List Count → Bool
 has_all table [] = true
 has_all table (x ∷ xs) = has table x.cluster && has_all table xs
 
 -- the fixed table that a page takes, if it takes one, lacks one of these
-abbrev pub lacks : Option fixed.Table → List Count → Bool
+abbrev pub lacks : Option fixed.FixedTable → List Count → Bool
 lacks None xs = false
 lacks (Some table) xs = not (has_all table xs)
 

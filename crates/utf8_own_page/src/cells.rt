@@ -18,7 +18,7 @@ use preconv_converter::Target;
 use std::alloc::{AllocError, Global};
 use std::marker::Model;
 use utf8_own_characters::{
-    Cluster, Count, MOST_NARROW, MOST_WIDE, Table, choose, fill_slots, rank,
+    Cluster, Count, MOST_NARROW, MOST_WIDE, OwnTable, choose, fill_slots, rank,
 };
 
 /// No cluster, counted never.
@@ -132,7 +132,7 @@ impl Cells {
     }
 
     /// The table of these.
-    pub fn table(&self) -> Table<'_>
+    pub fn table(&self) -> OwnTable<'_>
         ensures made { IsMadeOf self.now result }
         ensures good { Good result }
     {

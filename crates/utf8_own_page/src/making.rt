@@ -5,7 +5,7 @@ ghost use Rattle.utf8_own_characters.specs.Counting.{is_once};
 ghost use Rattle.utf8_own_characters.specs.Table.{Good};
 ghost use Rattle.utf8_own_page.specs.Needing.{IsMadeOf};
 
-use utf8_own_characters::{Cluster, Count, Table, halves_for};
+use utf8_own_characters::{Cluster, Count, OwnTable, halves_for};
 
 /// The table of what `choose` chose of these counts, which count each cluster once and are ranked. The slots are those that `fill_slots`
 /// filled.
@@ -17,12 +17,12 @@ pub(crate) fn table_of<'a>(
     narrow: &'a [Cluster],
     wide: &'a [Cluster],
     slots: &'a [u16],
-) -> Table<'a>
+) -> OwnTable<'a>
     requires cells { choice narrow.now wide.now ≡ chosen nothing ranked.now }
     requires once { is_once ranked.now ≡ true }
     ensures made { IsMadeOf ranked.now result }
     ensures good { Good result }
 {
     let halves = halves_for(wide.len());
-    Table::over(narrow, wide, halves, slots)
+    OwnTable::over(narrow, wide, halves, slots)
 }

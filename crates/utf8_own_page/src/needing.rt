@@ -3,7 +3,7 @@ ghost use Rattle.std.specs.Prelude.{◌≡◌, take};
 ghost use Rattle.utf8_own_page.specs.Needing as specs;
 
 use preconv_converter::lacks_letter;
-use utf8_characters::Table as Fixed;
+use utf8_characters::FixedTable as Fixed;
 use utf8_own_characters::{Cluster, Count};
 
 /// The first bytes of a page, which say whether it may need a table of its own.

@@ -4,10 +4,10 @@ ghost use Rattle.utf8_own_page.specs.Signs as specs;
 ghost use Rattle.utf8_own_characters.specs.Table.{Good};
 
 use tbl_table::{Joints, Signs};
-use utf8_own_characters::{Cluster, Code, Table};
+use utf8_own_characters::{Cluster, Code, OwnTable};
 
 /// The byte of a character of one column, or that of ASCII.
-fn byte_of(table: &Table<'_>, character: char, ascii: u8) -> u8
+fn byte_of(table: &OwnTable<'_>, character: char, ascii: u8) -> u8
     requires { Good table.now }
     ensures { result ≡ specs.byte_for table.now character ascii }
 {
@@ -18,7 +18,7 @@ fn byte_of(table: &Table<'_>, character: char, ascii: u8) -> u8
 }
 
 /// The bytes where bars meet a rule.
-fn joints_of(table: &Table<'_>, begins: char, crosses: char, ends: char) -> Joints
+fn joints_of(table: &OwnTable<'_>, begins: char, crosses: char, ends: char) -> Joints
     requires { Good table.now }
     ensures { result ≡ specs.joints_for table.now begins crosses ends }
 {
@@ -30,7 +30,7 @@ fn joints_of(table: &Table<'_>, begins: char, crosses: char, ends: char) -> Join
 }
 
 /// What frames are drawn with: the table's bytes of lines, and ASCII for those that it lacks.
-pub fn signs_of(table: &Table<'_>) -> Signs
+pub fn signs_of(table: &OwnTable<'_>) -> Signs
     requires { Good table.now }
     ensures { result ≡ specs.signs_for table.now }
 {

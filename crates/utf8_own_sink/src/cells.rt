@@ -7,7 +7,7 @@ ghost use Rattle.utf8_own_sink.specs.declared.cells.Half.TheVariants.{Nothing};
 use super::letters::Way;
 use nr_vectors::cell::Look;
 use nr_vectors::slice_vec::SliceVec;
-use utf8_own_characters::{Cluster, Read, Table};
+use utf8_own_characters::{Cluster, OwnTable, Read};
 
 /// The most bytes of what comes of one that is read, and of the end.
 pub(crate) const MOST: usize = 256;
@@ -88,7 +88,7 @@ fn byte_of(lead: Option<Cell>) -> Option<u8>
 
 /// What comes of a byte where a first half may wait. One of ASCII is its character, whatever the table.
 #[inline]
-fn read_byte(table: &Table<'_>, lead: Option<u8>, byte: u8) -> Read
+fn read_byte(table: &OwnTable<'_>, lead: Option<u8>, byte: u8) -> Read
     ensures { result ≡ specs.read_byte table.now lead byte }
 {
     if byte >= 128 {
@@ -224,7 +224,7 @@ impl Reader {
 
     /// Whether a cell is the first half of a pair, which waits for the other one.
     #[inline(always)]
-    fn holds(&self, cell: Cell, table: &Table<'_>) -> bool
+    fn holds(&self, cell: Cell, table: &OwnTable<'_>) -> bool
         ensures { result ≡ holds table.now self.now cell }
     {
         cell.byte >= 128 && self.lead.is_none() && table.is_lead(cell.byte)
@@ -232,7 +232,7 @@ impl Reader {
 
     /// A cell goes out, or waits for the other half of its pair: at most 99 bytes.
     #[inline(always)]
-    fn put_cell(&mut self, cell: Cell, table: &Table<'_>, out: &mut SliceVec<'_, u8>)
+    fn put_cell(&mut self, cell: Cell, table: &OwnTable<'_>, out: &mut SliceVec<'_, u8>)
         requires { length out.old.items + 99 ≤ out.old.capacity }
         ensures items { out.new.items ≡ out.old.items ++ drawn_all self.old.way (specs.letters_of table.now self.old.lead cell) }
         ensures few { length out.new.items ≤ length out.old.items + 99 }
@@ -261,7 +261,7 @@ impl Reader {
 
     /// A byte comes, and nothing of a cell is read: at most 99 bytes go out.
     #[inline(always)]
-    fn begin(&mut self, byte: u8, table: &Table<'_>, out: &mut SliceVec<'_, u8>)
+    fn begin(&mut self, byte: u8, table: &OwnTable<'_>, out: &mut SliceVec<'_, u8>)
         requires { length out.old.items + 99 ≤ out.old.capacity }
         ensures items { out.new.items ≡ out.old.items ++ begun_said table.now byte self.old }
         ensures few { length out.new.items ≤ length out.old.items + 99 }
@@ -278,7 +278,7 @@ impl Reader {
 
     /// A byte comes after another: at most 198 bytes go out.
     #[inline(always)]
-    fn go_on(&mut self, held: u8, byte: u8, table: &Table<'_>, out: &mut SliceVec<'_, u8>)
+    fn go_on(&mut self, held: u8, byte: u8, table: &OwnTable<'_>, out: &mut SliceVec<'_, u8>)
         requires { length out.old.items + 198 ≤ out.old.capacity }
         ensures items { out.new.items ≡ out.old.items ++ next_said table.now held byte self.old }
         ensures few { length out.new.items ≤ length out.old.items + 198 }
@@ -290,7 +290,7 @@ impl Reader {
     }
 
     /// A byte comes that is struck over another: at most 99 bytes go out.
-    fn strike(&mut self, held: u8, byte: u8, table: &Table<'_>, out: &mut SliceVec<'_, u8>)
+    fn strike(&mut self, held: u8, byte: u8, table: &OwnTable<'_>, out: &mut SliceVec<'_, u8>)
         requires { length out.old.items + 99 ≤ out.old.capacity }
         ensures items { out.new.items ≡ out.old.items ++ cell_said table.now (specs.struck self.old.before held byte) self.old }
         ensures few { length out.new.items ≤ length out.old.items + 99 }
@@ -303,7 +303,7 @@ impl Reader {
 
     /// A byte comes: at most 198 bytes go out.
     #[inline(always)]
-    pub(crate) fn read(&mut self, byte: u8, table: &Table<'_>, out: &mut SliceVec<'_, u8>)
+    pub(crate) fn read(&mut self, byte: u8, table: &OwnTable<'_>, out: &mut SliceVec<'_, u8>)
         requires { length out.old.items + 256 ≤ out.old.capacity }
         ensures items { out.new.items ≡ out.old.items ++ said table.now self.old.half byte self.old }
         ensures few { length out.new.items ≤ length out.old.items + 256 }
@@ -319,7 +319,7 @@ impl Reader {
     }
 
     /// What is half read of a cell goes out: at most 99 bytes.
-    fn release(&mut self, table: &Table<'_>, out: &mut SliceVec<'_, u8>)
+    fn release(&mut self, table: &OwnTable<'_>, out: &mut SliceVec<'_, u8>)
         requires { length out.old.items + 99 ≤ out.old.capacity }
         ensures items { out.new.items ≡ out.old.items ++ released_said table.now self.old.half self.old }
         ensures few { length out.new.items ≤ length out.old.items + 99 }
@@ -333,7 +333,7 @@ impl Reader {
     }
 
     /// The end comes: at most 141 bytes go out.
-    pub(crate) fn finish(&mut self, table: &Table<'_>, out: &mut SliceVec<'_, u8>)
+    pub(crate) fn finish(&mut self, table: &OwnTable<'_>, out: &mut SliceVec<'_, u8>)
         requires { length out.old.items + 256 ≤ out.old.capacity }
         ensures items { out.new.items ≡ out.old.items ++ ended table.now self.old }
         ensures few { length out.new.items ≤ length out.old.items + 256 }

@@ -6,13 +6,13 @@ ghost use Rattle.nr_units.specs.Sink.{AppendsPrefix};
 ghost use Rattle.utf8_own_sink.specs.Cells.{converted};
 ghost use Rattle.utf8_own_sink.specs.Showing.{Making, Finishes, StandsOr, emitted};
 
-use super::turner::Turner;
+use super::pending::PendingText;
 use nr_units::sink::Sink;
 use nr_units::source::{Fault, next_count};
 use std::marker::Model;
 use std::snapshot::Snapshot;
 use utf8_converter::Came;
-use utf8_own_characters::Table;
+use utf8_own_characters::OwnTable;
 
 /// Takes the bytes of cells, and puts the characters that they show into another sink. Once that failed, each `put` fails.
 ///
@@ -25,9 +25,9 @@ pub struct Shown<'a, W: Sink> {
     output: W,
     begun: Snapshot<W>,
     came: Came,
-    table: &'a Table<'a>,
+    table: &'a OwnTable<'a>,
     escapes: bool,
-    turner: Turner<'a>,
+    pending: PendingText<'a>,
     broken: bool,
     flushed: bool,
     failed_puts: u64,
@@ -37,7 +37,7 @@ pub struct Shown<'a, W: Sink> {
       escapes = escapes;
       begun = W.held begun.value;
       failed = (W.failures begun.value).puts;
-    }) came.bytes (W.held output) (W.failures output).puts turner.reader turner.out.items ∥₁ } by { ∥∥₁_prop },
+    }) came.bytes (W.held output) (W.failures output).puts pending.reader pending.out.items ∥₁ } by { ∥∥₁_prop },
     ghost counts: { broken ≡ false → failed_puts ≡ 0 },
 }
 
@@ -62,7 +62,7 @@ impl<'a, W: Sink> Model for Shown<'a, W> {
 impl<'a, W: Sink> Shown<'a, W> {
     /// Nothing came yet. The room, of 512 bytes at least, holds what goes out; what it held is of no account. With `escapes` looks
     /// stand between escape sequences.
-    pub fn over(output: W, table: &'a Table<'a>, escapes: bool, room: &'a mut [u8]) -> Self
+    pub fn over(output: W, table: &'a OwnTable<'a>, escapes: bool, room: &'a mut [u8]) -> Self
         requires { 512 ≤ length room.now }
         ensures held { result.bytes ≡ emitted (record {
           table = table.now;
@@ -80,7 +80,7 @@ impl<'a, W: Sink> Shown<'a, W> {
             came: Came::nothing(),
             table,
             escapes,
-            turner: Turner::new(escapes, room),
+            pending: PendingText::new(escapes, room),
             broken: false,
             flushed: false,
             failed_puts: 0,
@@ -105,7 +105,7 @@ impl<'a, W: Sink> Shown<'a, W> {
             came: _,
             table,
             escapes: _,
-            mut turner,
+            mut pending,
             broken,
             flushed: _,
             failed_puts: _,
@@ -114,7 +114,7 @@ impl<'a, W: Sink> Shown<'a, W> {
         if broken {
             return (output, Err(Fault));
         }
-        let ended = turner.close(table, &mut output);
+        let ended = pending.close(table, &mut output);
         (output, ended)
     }
 }
@@ -132,7 +132,7 @@ impl<'a, W: Sink> Sink for Shown<'a, W> {
         self.came.note(bytes);
         if self.broken
             || self
-                .turner
+                .pending
                 .take_all(bytes, self.table, &mut self.output)
                 .is_err()
         {
@@ -147,7 +147,7 @@ impl<'a, W: Sink> Sink for Shown<'a, W> {
     }
 
     fn flush(&mut self) -> Result<(), Fault> {
-        if self.broken || self.turner.pass_on(&mut self.output).is_err() {
+        if self.broken || self.pending.pass_on(&mut self.output).is_err() {
             self.broken = true;
             self.failed_flushes = next_count(self.failed_flushes);
             return Err(Fault);

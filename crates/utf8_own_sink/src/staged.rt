@@ -6,7 +6,7 @@ ghost use Rattle.utf8_own_sink.specs.Reading.{decoding, fed, first};
 use super::cells::{MOST, Reader};
 use document_stages::Stage;
 use nr_vectors::slice_vec::SliceVec;
-use utf8_own_characters::Table;
+use utf8_own_characters::OwnTable;
 
 /// The bytes of cells become the characters that they show.
 ///
@@ -16,11 +16,11 @@ use utf8_own_characters::Table;
 #[derive(Drop)]
 pub struct Decoder<'a> {
     reader: Reader,
-    table: &'a Table<'a>,
+    table: &'a OwnTable<'a>,
 }
 
 /// These bytes are read, one after another, and what they come to is put after what waits.
-fn read_all(bytes: &[u8], reader: &mut Reader, table: &Table<'_>, out: &mut SliceVec<'_, u8>)
+fn read_all(bytes: &[u8], reader: &mut Reader, table: &OwnTable<'_>, out: &mut SliceVec<'_, u8>)
     requires room { length out.old.items + 256 * length bytes.now ≤ out.old.capacity }
     ensures items { out.new.items ≡ out.old.items ++ (fed table.now reader.old bytes.now).bytes }
     ensures few { length out.new.items ≤ length out.old.items + 256 * length bytes.now }
@@ -34,7 +34,7 @@ fn read_all(bytes: &[u8], reader: &mut Reader, table: &Table<'_>, out: &mut Slic
 
 impl<'a> Decoder<'a> {
     /// A text begins. With `escapes` looks stand between escape sequences.
-    pub fn over(table: &'a Table<'a>, escapes: bool) -> Decoder<'a>
+    pub fn over(table: &'a OwnTable<'a>, escapes: bool) -> Decoder<'a>
         ensures says { ⟦<Decoder<'a> as Stage>⟧.says result ≡ decoding table.now (first escapes) }
         ensures fits { ⟦<Decoder<'a> as Stage>⟧.fits result ≡ fits_always }
         ensures wants { ⟦<Decoder<'a> as Stage>⟧.wants result ≡ 256 }

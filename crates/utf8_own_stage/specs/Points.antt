@@ -7,8 +7,8 @@ use Rattle.utf8_own_stage.specs.declared.points.Line.{Line}
 use Rattle.utf8_own_stage.specs.declared.points.Line.TheVariants as lines
 use Rattle.utf8_own_stage.specs.declared.points.Escape.{Escape}
 use Rattle.utf8_own_stage.specs.declared.points.Escape.TheVariants as escapes
-use Rattle.utf8_own_stage.specs.declared.points.Table.{Table}
-use Rattle.utf8_own_stage.specs.declared.points.Table.TheVariants as tables
+use Rattle.utf8_own_stage.specs.declared.points.TablePlace.{TablePlace}
+use Rattle.utf8_own_stage.specs.declared.points.TablePlace.TheVariants as tables
 use Rattle.utf8_own_stage.specs.declared.points.Place.{Place}
 use Rattle.utf8_own_stage.specs.declared.points.Point.{Point}
 use Rattle.utf8_own_stage.specs.declared.points.Point.TheVariants.{Nothing, Cut, Newline, Joint}
@@ -28,11 +28,11 @@ abbrev pub is_plain : Escape → Bool
 is_plain escapes.Plain = true
 is_plain escape = false
 
-abbrev pub is_format : Table → Bool
+abbrev pub is_format : TablePlace → Bool
 is_format tables.Format = true
 is_format table = false
 
-abbrev pub is_rows : Table → Bool
+abbrev pub is_rows : TablePlace → Bool
 is_rows tables.Rows = true
 is_rows table = false
 
@@ -72,7 +72,7 @@ left p = if p.waits then newline ∷ [] else []
 -- ---- the place after a character
 
 -- in a table the format ends with a dot, and before a block a row with a brace
-abbrev pub table_after : Table → ℕ → Table
+abbrev pub table_after : TablePlace → ℕ → TablePlace
 table_after tables.Format before = if before == code "." then tables.Rows else tables.Format
 table_after tables.Rows before = if before == code "{" then tables.Block else tables.Rows
 table_after table before = table
@@ -87,7 +87,7 @@ line_ended p = record {
 }
 
 -- a block ends with a line that begins with `T`
-abbrev pub table_begun : Table → ℕ → Table
+abbrev pub table_begun : TablePlace → ℕ → TablePlace
 table_begun tables.Block c = if c == code "T" then tables.Rows else tables.Block
 table_begun table c = table
 

@@ -8,14 +8,14 @@ ghost use Rattle.utf8_own_stage.specs.Points.{left, passed, point, text_of};
 use super::points::{Place, Point};
 use nr_vectors::slice_vec::SliceVec;
 use preconv_converter::{Target, put_likeness};
-use utf8_own_characters::{Cluster, Code, Listened, Listener, Table, is_mark};
+use utf8_own_characters::{Cluster, Code, Listened, Listener, OwnTable, is_mark};
 
 /// The most bytes of what comes of one that is read.
 pub(crate) const MOST: usize = 32;
 
 /// Puts the bytes of a cluster, or what its letter looks like where the table lacks it: at most 21 bytes.
 #[inline(always)]
-fn put_cluster(cluster: &Cluster, table: &Table<'_>, out: &mut SliceVec<'_, u8>)
+fn put_cluster(cluster: &Cluster, table: &OwnTable<'_>, out: &mut SliceVec<'_, u8>)
     requires good { Good table.now }
     requires room { length out.old.items + 24 ≤ out.old.capacity }
     ensures items { out.new.items ≡ out.old.items ++ specs.coded table.now cluster.now }
@@ -50,7 +50,7 @@ fn put_point(place: &Place, character: char, out: &mut SliceVec<'_, u8>)
 fn put_done(
     cluster: Option<Cluster>,
     place: &mut Place,
-    table: &Table<'_>,
+    table: &OwnTable<'_>,
     out: &mut SliceVec<'_, u8>,
 )
     requires good { Good table.now }
@@ -93,7 +93,7 @@ fn put_byte(byte: Option<u8>, place: &mut Place, out: &mut SliceVec<'_, u8>)
 fn put_listened(
     listened: Listened,
     place: &mut Place,
-    table: &Table<'_>,
+    table: &OwnTable<'_>,
     out: &mut SliceVec<'_, u8>,
 )
     requires good { Good table.now }
@@ -145,7 +145,7 @@ fn put_one(
     bytes: &[u8],
     listener: &mut Listener,
     place: &mut Place,
-    table: &Table<'_>,
+    table: &OwnTable<'_>,
     out: &mut SliceVec<'_, u8>,
 )
     requires good { Good table.now }
@@ -168,7 +168,7 @@ fn put_other(
     bytes: &[u8],
     listener: &mut Listener,
     place: &mut Place,
-    table: &Table<'_>,
+    table: &OwnTable<'_>,
     out: &mut SliceVec<'_, u8>,
 )
     requires good { Good table.now }
@@ -197,7 +197,7 @@ fn put_letter(
     bytes: &[u8],
     listener: &mut Listener,
     place: &mut Place,
-    table: &Table<'_>,
+    table: &OwnTable<'_>,
     out: &mut SliceVec<'_, u8>,
 )
     requires good { Good table.now }
@@ -221,7 +221,7 @@ fn put_first(
     bytes: &[u8],
     listener: &mut Listener,
     place: &mut Place,
-    table: &Table<'_>,
+    table: &OwnTable<'_>,
     out: &mut SliceVec<'_, u8>,
 ) -> usize
     requires good { Good table.now }
@@ -252,7 +252,7 @@ pub(crate) fn put_all(
     bytes: &[u8],
     listener: &mut Listener,
     place: &mut Place,
-    table: &Table<'_>,
+    table: &OwnTable<'_>,
     out: &mut SliceVec<'_, u8>,
 )
     requires good { Good table.now }
@@ -274,7 +274,7 @@ pub(crate) fn put_all(
 pub(crate) fn put_last(
     cluster: Option<Cluster>,
     place: &mut Place,
-    table: &Table<'_>,
+    table: &OwnTable<'_>,
     out: &mut SliceVec<'_, u8>,
 )
     requires good { Good table.now }

@@ -36,7 +36,7 @@ pub(crate) enum Escape {
 
 /// What is read of a table.
 #[derive(Clone, Copy)]
-pub(crate) enum Table {
+pub(crate) enum TablePlace {
     /// None is read.
     Nowhere,
     /// Its format.
@@ -55,7 +55,7 @@ pub(crate) struct Place {
     /// Which part of an escape was read.
     pub escape: Escape,
     /// What is read of a table.
-    pub table: Table,
+    pub table: TablePlace,
     /// The character of the line that is printed before it, or NUL.
     pub before: char,
     /// A newline waits for it, after an East Asian character.
@@ -83,7 +83,7 @@ impl Place {
         Place {
             line: Line::Start,
             escape: Escape::Plain,
-            table: Table::Nowhere,
+            table: TablePlace::Nowhere,
             before: '\0',
             waits: false,
         }
@@ -121,7 +121,7 @@ impl Place {
     fn is_open(&self) -> bool
         ensures { result ≡ specs.is_open self.now }
     {
-        matches!(self.escape, Escape::Plain) && !matches!(self.table, Table::Format)
+        matches!(self.escape, Escape::Plain) && !matches!(self.table, TablePlace::Format)
     }
 
     /// Whether a newline would wait here: after an East Asian character in a text line, but not in a row of a table.
@@ -131,7 +131,7 @@ impl Place {
     {
         matches!(self.line, Line::Text)
             && self.is_open()
-            && !matches!(self.table, Table::Rows)
+            && !matches!(self.table, TablePlace::Rows)
             && is_east_asian(self.before)
     }
 
@@ -150,8 +150,8 @@ impl Place {
     {
         self.waits = self.may_join();
         self.table = match (self.table, self.before) {
-            (Table::Format, '.') => Table::Rows,
-            (Table::Rows, '{') => Table::Block,
+            (TablePlace::Format, '.') => TablePlace::Rows,
+            (TablePlace::Rows, '{') => TablePlace::Block,
             (table, _) => table,
         };
         self.line = Line::Start;
@@ -172,7 +172,7 @@ impl Place {
             }
         }
         self.table = match self.table {
-            Table::Block if character == 'T' => Table::Rows,
+            TablePlace::Block if character == 'T' => TablePlace::Rows,
             table => table,
         };
     }
@@ -195,8 +195,8 @@ impl Place {
         ensures { self.new ≡ specs.naming_table character self.old }
     {
         self.table = match character {
-            'S' | '&' => Table::Format,
-            'E' => Table::Nowhere,
+            'S' | '&' => TablePlace::Format,
+            'E' => TablePlace::Nowhere,
             _ => self.table,
         };
         self.names(character);

@@ -8,13 +8,13 @@ use super::coding::{MOST, put_all, put_last};
 use super::points::Place;
 use document_stages::Stage;
 use nr_vectors::slice_vec::SliceVec;
-use utf8_own_characters::{Listener, Table};
+use utf8_own_characters::{Listener, OwnTable};
 
 /// Characters of UTF-8 become the bytes of a page's own table, or what they look like where it lacks them. Between those of East Asia go
 /// special characters at which a line may be cut.
 #[derive(Drop)]
 pub struct Coder<'a> {
-    table: &'a Table<'a>,
+    table: &'a OwnTable<'a>,
     listener: Listener,
     place: Place,
     ghost good: { Good table.now },
@@ -22,7 +22,7 @@ pub struct Coder<'a> {
 
 impl<'a> Coder<'a> {
     /// A text begins.
-    pub fn over(table: &'a Table<'a>) -> Coder<'a>
+    pub fn over(table: &'a OwnTable<'a>) -> Coder<'a>
         requires { Good table.now }
         ensures says { ⟦<Coder<'a> as Stage>⟧.says result ≡ coded_text table.now }
         ensures fits { ⟦<Coder<'a> as Stage>⟧.fits result ≡ fits_always }

@@ -1,4 +1,4 @@
--- Braces in a row of items.
+-- Braces in a stretch of items.
 use Prim.Native.Char.{code}
 use Rattle.std.specs.Prelude.{ℕ, ◌+◌, ◌==◌, ◌&&◌, Bool, false, List, slice_get, Option, Some}
 use Rattle.nr_reading.specs.declared.next_item.NextItem.{NextItem}

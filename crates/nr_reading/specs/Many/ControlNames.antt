@@ -19,7 +19,7 @@ abbrev pub IsSign : ℕ → Bool → Signs → Type 0
 IsSign b false s = (b == s.control) ≡ true
 IsSign b true s = ((b == s.control) ≡ false) × ((b == s.no_break) ≡ true)
 
--- a byte that ends a name stands at a place of a row
+-- a byte that ends a name stands at a place of a stretch
 pub record NameEnds (fs : List NextItem) (place : ℕ) : Type 0 where
   pub byte : ℕ
   pub within : place < length fs

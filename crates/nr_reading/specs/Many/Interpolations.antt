@@ -1,4 +1,4 @@
--- Interpolations and font escapes that stand whole in a row of items (CSTR 54, 2, 7.2, 7.3, 8; the groff manual, Copy Mode).
+-- Interpolations and font escapes that stand whole in a stretch of items (CSTR 54, 2, 7.2, 7.3, 8; the groff manual, Copy Mode).
 use Prim.Native.Char.{code}
 use Rattle.std.specs.Prelude.{◌≡◌, ℕ, ◌+◌, ◌==◌, ◌&&◌, ◌||◌, not, Bool, true, false, List, [], ◌∷◌, slice_get, Some}
 use Rattle.nr_reading.specs.declared.ask.Kind.{Kind}
@@ -56,7 +56,7 @@ AsksOnly h g =
       notes = record h.notes { asked = g.notes.asked };
     }
 
--- A name stands there in the row: one byte, or in the midst of a line two after `(`, where an escape begins at neither.
+-- A name stands there in the stretch: one byte, or in the midst of a line two after `(`, where an escape begins at neither.
 pub data IsName (in_line : Bool) (fs : List NextItem) (place : ℕ) : Type 0 where
   Lone : (byte : ℕ) → slice_get fs place ≡ Some (next_items.Byte byte) → is_lone_name byte ≡ true
       → IsName in_line fs place
@@ -64,7 +64,7 @@ pub data IsName (in_line : Bool) (fs : List NextItem) (place : ℕ) : Type 0 whe
       → slice_get fs (place + 1) ≡ Some (next_items.Byte one) → slice_get fs (place + 2) ≡ Some (next_items.Byte two)
       → is_plain one ≡ true → is_plain two ≡ true → IsName in_line fs place
 
--- A font escape begins the row, with its name.
+-- A font escape begins the stretch, with its name.
 pub record IsFont (in_line : Bool) (fs : List NextItem) : Type 0 where
   pub backslash : slice_get fs 0 ≡ Some (next_items.Byte (code "\\"))
   pub letter : slice_get fs 1 ≡ Some (next_items.Byte (code "f"))

@@ -39,7 +39,7 @@ passes_plain h = is_none h.asks && passes_by h.reading.escape h.reading.mode h.n
 abbrev pub quiet : ℕ → Half → Spot
 quiet taken h = record { taken = taken; half = h; event = events.Nothing }
 
--- from the first item of a row to a place each move takes an item, and tells nothing
+-- from the first item of a stretch to a place each move takes an item, and tells nothing
 pub record GoesOn (fs : List NextItem) (to : ℕ) (old new : Half) : Type 0 where
   pub pending_act : new.reading.pending_act ≡ old.reading.pending_act
   pub taken_in : HasTakenIn to fs old (quiet to new)

@@ -9,7 +9,7 @@ use Rattle.nr_reading.specs.declared.many.runs.Run.{Run}
 use Rattle.nr_reading.specs.Half.{TakenIn, take_in}
 use Rattle.nr_reading.specs.Weights.{item_worth, cost_of_text, weight_of_half, cost_of_event, blanks_owed, is_lead}
 
--- where many moves have come in a row of items: how many were taken, what is half read after them, and what the last emitted
+-- where many moves have come in a stretch of items: how many were taken, what is half read after them, and what the last emitted
 pub record Spot : Type 0 where
   pub taken : ℕ
   pub half : Half
@@ -42,7 +42,7 @@ pub record MayGoOn (fs : List NextItem) (p : Spot) : Type 0 where
   pub pending_act : p.half.reading.pending_act ≡ pending_acts.Look
   pub event : p.event ≡ events.Nothing
 
--- n moves were made, which only took items of the row, and all but the last emitted nothing; each is paid
+-- n moves were made, which only took items of the stretch, and all but the last emitted nothing; each is paid
 pub record HasTakenIn (n : ℕ) (fs : List NextItem) (h : Half) (p : Spot) : Type 0 where
   pub leads : spot_after n fs h ≡ p
   pub goes : (k : ℕ) → k < n → MayGoOn fs (spot_after k fs h)

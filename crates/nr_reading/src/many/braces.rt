@@ -9,9 +9,9 @@ use crate::half::Half;
 use crate::many::runs::Items;
 
 impl Half {
-    /// Whether a row begins with `\}`, which in the midst of a text line does nothing: two moves, which take the two items and leave all else as it was.
+    /// Whether a stretch begins with `\}`, which in the midst of a text line does nothing: two moves, which take the two items and leave all else as it was.
     ///
-    /// Proved: `\}` before a row in the middle of a text line is two moves, which take it and leave all else as it
+    /// Proved: `\}` before a stretch in the middle of a text line is two moves, which take it and leave all else as it
     /// was.
     #[inline(always)]
     pub fn takes_in_brace<I: Items>(&self, items: &I) -> bool

@@ -5,13 +5,13 @@ ghost use Rattle.nr_reading.specs.Many.ControlNames.{IsSign, NameEnds, goes_on_n
 ghost use Rattle.nr_reading.specs.declared.mode.Mode.TheVariants as modes;
 ghost use Rattle.nr_reading.specs.Half.{reads_next};
 ghost use Rattle.nr_reading.specs.Many.Passing.{quiet};
-ghost use Rattle.nr_reading.specs.Many.Row.{LeadsOn};
+ghost use Rattle.nr_reading.specs.Many.Stretch.{LeadsOn};
 ghost use Rattle.nr_reading.specs.Many.Runs.{HasTakenIn};
 ghost use Rattle.nr_reading.specs.Spelled.{nothing_spelled, spelled};
 
 use crate::half::Half;
-use crate::many::row::byte_of;
 use crate::many::runs::Items;
+use crate::many::stretch::byte_of;
 use crate::mode::{Mode, PendingAct};
 use crate::spelled::{Spelled, ends_name};
 
@@ -32,7 +32,7 @@ pub(crate) fn goes_on_name(byte: u8) -> bool
     !(ends_name(byte) || byte == b'\\')
 }
 
-/// Whether a byte that ends a name stands at a place of a row.
+/// Whether a byte that ends a name stands at a place of a stretch.
 #[inline(always)]
 pub(crate) fn name_ends<I: Items>(items: &I, place: usize) -> bool
     ensures { result ≡ true → NameEnds (I.next_items items.now) place }
@@ -70,7 +70,7 @@ impl Half {
         self.notes.name.push(first);
     }
 
-    // A control character and a name of one byte or two after it are taken in, where they come at this place of a row. None where they
+    // A control character and a name of one byte or two after it are taken in, where they come at this place of a stretch. None where they
     // don't, and where a byte that ends the name would have to follow and does not.
     #[inline(always)]
     pub(crate) fn take_in_name_at<I: Items>(
@@ -123,7 +123,7 @@ impl Half {
         })
     }
 
-    /// A control character at a line's beginning and a name of one byte or two after it are taken in, where they come first in a row.
+    /// A control character at a line's beginning and a name of one byte or two after it are taken in, where they come first in a stretch.
     /// None where they don't; where names are long, or the name has one byte, the byte that ends it must be there too, and is left.
     ///
     /// Proved: A control character with a name of one byte or two, whether names are long or not, and the line of a

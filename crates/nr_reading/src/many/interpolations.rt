@@ -1,4 +1,4 @@
-//! Interpolations and font escapes that stand whole in a row, taken in at once.
+//! Interpolations and font escapes that stand whole in a stretch, taken in at once.
 ghost use Rattle.std.specs.Prelude.{◌≡◌, ◌+◌, ◌<◌, ◌≤◌, ℕ, length, slice_get, Some, None, IfSome, true};
 ghost use Rattle.nr_units.specs.Character.{code};
 ghost use Rattle.nr_reading.specs.declared.ask.Kind.TheVariants as kinds;
@@ -36,7 +36,7 @@ fn is_lone_name(byte: u8) -> bool
         || byte == b'-')
 }
 
-// The byte so many items after a place of a row, if there is one.
+// The byte so many items after a place of a stretch, if there is one.
 #[inline(always)]
 fn byte_at<I: Items>(items: &I, place: usize, afterwards: usize) -> Option<u8>
     requires { place < length (I.next_items items.now) }
@@ -118,7 +118,7 @@ impl Half {
     }
 
     // The name of a string, a register or a font is taken in, after so many items of its escape, which begins at a place. None where the
-    // row has not all of it.
+    // stretch has not all of it.
     #[inline(always)]
     fn take_in_named<I: Items>(
         &mut self,
@@ -311,10 +311,10 @@ impl Half {
     }
 
     /// An interpolation `\$N`, `\nX`, `\n(XX` or `\*X`, `\*(XX`, with a sign or not, or in a text line a font escape `\fX`, `\f(XX`, is taken in
-    /// at once that begins at this place of a row, with a `\`. None where the row has not all of it, or it isn't one of these.
+    /// at once that begins at this place of a stretch, with a `\`. None where the stretch has not all of it, or it isn't one of these.
     ///
     /// Proved: An interpolation `\$N`, or of a string or a register whose name has one byte or two, is taken in by one
-    /// call as byte by byte, where the row has all of it, and so is a font escape in text, or with a name of one byte
+    /// call as byte by byte, where the stretch has all of it, and so is a font escape in text, or with a name of one byte
     /// at a line's beginning.
     #[inline(always)]
     pub(crate) fn take_in_interpolation<I: Items>(&mut self, items: &I, place: usize) -> Option<Run>
@@ -345,8 +345,8 @@ impl Half {
         }
     }
 
-    /// The font escape that a row begins with is taken in where an item is looked at next: `\fX` or `\f(XX` in the midst of a text line, `\fX` at the
-    /// beginning of a line. None where the row has not all of it, or it begins otherwise.
+    /// The font escape that a stretch begins with is taken in where an item is looked at next: `\fX` or `\f(XX` in the midst of a text line, `\fX` at the
+    /// beginning of a line. None where the stretch has not all of it, or it begins otherwise.
     #[inline(always)]
     pub fn take_in_next_font<I: Items>(&mut self, items: &I) -> Option<Run>
         ensures taken_in { IfSome result
@@ -374,7 +374,7 @@ impl Half {
         }
     }
 
-    /// The interpolation or font escape that a row begins with is taken in, as `take_in_interpolation` says, where an item is looked at next.
+    /// The interpolation or font escape that a stretch begins with is taken in, as `take_in_interpolation` says, where an item is looked at next.
     #[inline(always)]
     pub fn take_in_next<I: Items>(&mut self, items: &I) -> Option<Run>
         ensures taken_in { IfSome result

@@ -2,7 +2,7 @@
 ghost use Rattle.std.specs.Prelude.{◌≡◌, ◌≤◌, ◌+◌, ◌-◌, ℕ, length, true};
 ghost use Rattle.nr_reading.specs.declared.mode.PendingAct.TheVariants as pending_acts;
 ghost use Rattle.nr_reading.specs.Many.Passing.{GoesOn, is_plain, drops_plain, passes_plain};
-ghost use Rattle.nr_reading.specs.Many.Row.{LeadsOn};
+ghost use Rattle.nr_reading.specs.Many.Stretch.{LeadsOn};
 
 use crate::half::Half;
 use crate::many::runs::Items;
@@ -75,7 +75,7 @@ impl Half {
         }
     }
 
-    // Bytes that do nothing are passed over from one place of a row on, before another. The result is where they end.
+    // Bytes that do nothing are passed over from one place of a stretch on, before another. The result is where they end.
     #[inline(never)]
     fn pass_between<I: Items>(&self, items: &I, from: usize, to: usize) -> usize
         requires passes { passes_plain self.now ≡ true }
@@ -96,7 +96,7 @@ impl Half {
         to
     }
 
-    /// The bytes of a comment are passed over from a place of a row on, so many at most. The result is where they end: there, where
+    /// The bytes of a comment are passed over from a place of a stretch on, so many at most. The result is where they end: there, where
     /// no comment is being read.
     #[inline(always)]
     pub(crate) fn pass_comment<I: Items>(&self, items: &I, from: usize, most: usize) -> usize
@@ -114,7 +114,7 @@ impl Half {
         self.pass_between(items, from, from + count)
     }
 
-    /// Bytes that do nothing are passed over from the beginning of a row on, so many at most. The result is how many.
+    /// Bytes that do nothing are passed over from the beginning of a stretch on, so many at most. The result is how many.
     #[inline(always)]
     pub(crate) fn take_in_plain<I: Items>(&self, items: &I, room: usize) -> usize
         requires pending_act { self.now.reading.pending_act ≡ pending_acts.Look }

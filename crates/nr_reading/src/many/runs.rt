@@ -1,11 +1,11 @@
 //! Many items taken in one after another.
 ghost use Rattle.std.specs.Prelude.{◌≡◌, ◌<◌, ◌≤◌, ℕ, List, length, map, slice_get, Some, None, IfSome, true};
 ghost use Rattle.nr_reading.specs.declared.event.Event.TheVariants as events;
-ghost use Rattle.nr_reading.specs.declared.next_item.NextItem.{NextItem as RowItem};
+ghost use Rattle.nr_reading.specs.declared.next_item.NextItem.{NextItem as StretchItem};
 ghost use Rattle.nr_reading.specs.declared.next_item.NextItem.TheVariants as variants;
 ghost use Rattle.nr_reading.specs.declared.mode.PendingAct.TheVariants as pending_acts;
 ghost use Rattle.nr_reading.specs.Half.{reads_next};
-ghost use Rattle.nr_reading.specs.Many.Row.{TakesInRest};
+ghost use Rattle.nr_reading.specs.Many.Stretch.{TakesInRest};
 ghost use Rattle.nr_reading.specs.Many.Runs.{HasTakenIn, spot};
 
 use crate::event::Event;
@@ -15,10 +15,10 @@ use crate::mode::{Mode, PendingAct};
 /// The most moves of one run.
 const LONGEST: usize = 65_536;
 
-/// Items in a row.
+/// Items in a stretch.
 pub trait Items {
     /// The items.
-    ghost next_items: { Self → List RowItem };
+    ghost next_items: { Self → List StretchItem };
 
     /// How many there are.
     fn count(&self) -> usize
@@ -32,7 +32,7 @@ pub trait Items {
             → ⊥ };
 }
 
-/// What came of a row of items.
+/// What came of a stretch of items.
 #[derive(Clone, Copy)]
 pub struct Run {
     /// How many items were taken.
@@ -47,9 +47,9 @@ impl Half {
     /// Bytes are taken in, up to the first item that is none, the first that tells something, or after which something is pending;
     /// in 65,536 moves at most.
     ///
-    /// Proved: A row of items is taken in by one call as one by one, of which only the last may emit an event or leave
+    /// Proved: A stretch of items is taken in by one call as one by one, of which only the last may emit an event or leave
     /// something pending.
-    /// Proved: If a call for a row emits nothing, leaves nothing pending and makes fewer than 65,536 moves, the row
+    /// Proved: If a call for a stretch emits nothing, leaves nothing pending and makes fewer than 65,536 moves, the stretch
     /// has no next byte.
     #[inline(always)]
     pub fn take_in_run<I: Items>(&mut self, items: &I) -> Run
@@ -70,7 +70,7 @@ impl Half {
         run
     }
 
-    // After so many items and moves, the interpolation that begins with this byte, if it stands whole in the row.
+    // After so many items and moves, the interpolation that begins with this byte, if it stands whole in the stretch.
     #[inline(always)]
     pub(crate) fn take_in_whole<I: Items>(
         &mut self,
@@ -99,7 +99,7 @@ impl Half {
         })
     }
 
-    /// The items after a place of a row, to which so many moves led, are taken in one after another.
+    /// The items after a place of a stretch, to which so many moves led, are taken in one after another.
     #[inline(never)]
     pub(crate) fn take_in_more<I: Items>(
         &mut self,
@@ -146,7 +146,7 @@ impl Half {
         };
     }
 
-    // The items of a row are taken in: first those that do little, then one after another.
+    // The items of a stretch are taken in: first those that do little, then one after another.
     #[inline(never)]
     fn take_in_others<I: Items>(&mut self, items: &I, run: &mut Run)
         requires pending_act { self.old.reading.pending_act ≡ pending_acts.Look }
@@ -156,7 +156,7 @@ impl Half {
         self.take_in_more(items, taken, taken, run)
     }
 
-    // The items of a row are taken in by the loop of the mode, where it has one.
+    // The items of a stretch are taken in by the loop of the mode, where it has one.
     #[inline(always)]
     fn take_in_by_mode<I: Items>(&mut self, items: &I, run: &mut Run)
         requires next { reads_next self.old ≡ true }
@@ -184,7 +184,7 @@ impl Half {
         }
     }
 
-    // The items of a row are taken in, as `take_in_run` says; `run` is where that ends.
+    // The items of a stretch are taken in, as `take_in_run` says; `run` is where that ends.
     #[inline(never)]
     fn take_in_items<I: Items>(&mut self, items: &I, run: &mut Run)
         ensures taken_in { HasTakenIn run.new.moves (I.next_items items.now) self.old (spot run.new self.new) }

@@ -13,13 +13,13 @@ use crate::request::{REQUESTS, Request};
 use crate::store::Store;
 use nr_levels::{Gathering, Levels, Stack};
 use nr_pool::Pool;
-use nr_symbol_tables::{HyphenationWords, Table, Traps};
+use nr_symbol_tables::{HyphenationWords, SymbolTable, Traps};
 use nr_units::Name;
 use nr_vectors::CountedAlloc;
 use std::alloc::AllocError;
 
 // Puts these requests under their names.
-fn name_requests(names: &mut Table<Sense>, requests: &[(u8, u8, Request)])
+fn name_requests(names: &mut SymbolTable<Sense>, requests: &[(u8, u8, Request)])
     requires room { length names.old.entries + length requests.now ≤ names.old.capacity }
     ensures { names.new ≡ record names.old { entries = with_senses requests.now names.old.entries } }
 {
@@ -33,7 +33,7 @@ fn name_requests(names: &mut Table<Sense>, requests: &[(u8, u8, Request)])
 #[derive(Drop)]
 struct Beside {
     gathering: Gathering,
-    registers: Table<Register>,
+    registers: SymbolTable<Register>,
     traps: Traps,
     words: HyphenationWords,
 }
@@ -53,7 +53,7 @@ impl Beside {
     {
         Ok(Beside {
             gathering: Gathering::new(alloc, room.gathering)?,
-            registers: Table::new(alloc, room.registers)?,
+            registers: SymbolTable::new(alloc, room.registers)?,
             traps: Traps::new(alloc, room.traps)?,
             words: HyphenationWords::new(alloc, room.words)?,
         })
@@ -70,7 +70,7 @@ impl<K: Copy> Store<K> {
         ensures taken { IfOk result (λ made. alloc.new ≡ alloc.old + elements_in (rooms_of limit deepest)) }
     {
         let room = Room::of(limit, deepest);
-        let mut names = Table::new(alloc, room.names)?;
+        let mut names = SymbolTable::new(alloc, room.names)?;
         name_requests(&mut names, &REQUESTS);
         let drafts = Stack::new(alloc, room.drafts)?;
         let pool = Pool::new(alloc, room.elements, room.slots)?;

@@ -10,11 +10,11 @@ use crate::element::Element;
 use crate::named::{Meaning, Sense};
 use crate::store::Store;
 use nr_pool::{Id, Pool};
-use nr_symbol_tables::Table;
+use nr_symbol_tables::SymbolTable;
 use nr_units::Name;
 
 // The number of the text of a name.
-pub(crate) fn text_in(names: &Table<Sense>, name: Name) -> Option<Id>
+pub(crate) fn text_in(names: &SymbolTable<Sense>, name: Name) -> Option<Id>
     ensures { result ≡ text_id (find name names.now.entries) }
 {
     let Some(sense) = names.get(name) else {

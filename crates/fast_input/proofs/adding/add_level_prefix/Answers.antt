@@ -13,7 +13,7 @@ use Rattle.fast_input.specs.Runs.{HasRead}
 use Rattle.fast_input.specs.Target.{with_more}
 use Rattle.fast_input.proofs.LimitsStay.{left_times-limits, with_more-limits}
 use Rattle.fast_input.proofs.PuttingLevel.{ArePrefix, level_added, level_added_pays, level_added_left}
-use Rattle.fast_input.proofs.RowMoves.{reads_nothing}
+use Rattle.fast_input.proofs.StretchMoves.{reads_nothing}
 use Rattle.fast_input.proofs.Targets.{limit-with_more, nothing_added}
 use Rattle.fast_input.proofs.adding.add_level_prefix.Goals as goal
 

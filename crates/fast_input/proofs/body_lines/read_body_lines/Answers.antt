@@ -2,7 +2,7 @@ use Rattle.std.proofs.Common.{◌≡◌, ◌<◌, length, take, sym, arith}
 use Rattle.std.proofs.lemmas.Bool.{eqb-false}
 use Rattle.std.proofs.lemmas.List.{length-take}
 use Rattle.fast_input.proofs.MacroLines.{taken_within, none_read, none_paid, line_read, line_paid}
-use Rattle.fast_input.proofs.RowsRead.{holds_past}
+use Rattle.fast_input.proofs.StretchesRead.{holds_past}
 use Rattle.fast_input.proofs.body_lines.read_body_lines.Goals as goal
 
 pub returns-then-run-eq0-clause-read : goal.returns-then-run-eq0-clause-read

@@ -9,7 +9,7 @@ use Rattle.std.proofs.Common.{Ok}
 use Rattle.nr_reading.specs.declared.mode.PendingAct.TheVariants as pending_acts
 use Rattle.nr_input.proofs.LimitsStay.{act_stays}
 use Rattle.fast_input.proofs.ControlLines.{all_read, all_paid}
-use Rattle.fast_input.proofs.RowsRead.{holds_past}
+use Rattle.fast_input.proofs.StretchesRead.{holds_past}
 use Rattle.fast_input.proofs.control_lines.read_named_line.Goals as goal
 
 pub returns-clause-read : goal.returns-clause-read

@@ -1,7 +1,7 @@
 use Rattle.std.proofs.Common.{◌≡◌, ◌+◌, ◌<◌, length, take, sym, ◌∙◌, arith}
 use Rattle.fast_input.proofs.DroppedLines.{dropped_reads}
 use Rattle.fast_input.proofs.MacroLines.{taken_within, line_read, line_paid}
-use Rattle.fast_input.proofs.RowsRead.{holds_past}
+use Rattle.fast_input.proofs.StretchesRead.{holds_past}
 use Rattle.fast_input.proofs.dropped_lines.read_dropped_line.Goals as goal
 
 pub returns-clause-read : goal.returns-clause-read

@@ -11,7 +11,7 @@ use Rattle.fast_input.specs.declared.splices.Splice.{Splice}
 use Rattle.nr_input.specs.Acting.{expanded}
 use Rattle.fast_input.specs.Gathering.{AreGathered}
 use Rattle.fast_input.specs.Interpolations.{MaySplice, brings_text}
-use Rattle.fast_input.proofs.RowsRead.{taken-le}
+use Rattle.fast_input.proofs.StretchesRead.{taken-le}
 use Rattle.fast_input.proofs.TextGathered.{after_is, after_made, escape_gathered}
 use Rattle.fast_input.proofs.gathering.gather_escape.Goals as goal
 
@@ -53,7 +53,7 @@ returns-clause-gathered g c = λ r old.
     let own_long : length own ≡ taken_in.count = length-take-le taken_in.count part within in
     let fits : length bytes + length own ≤ 4096 = omega (arith, long, own_long, within, whole, here, holds, length-drop gathered.count chunk, length-take (length chunk - gathered.count) (drop gathered.count chunk)) in
     let look = (in_text q.half c.requires.text).pending_act in
-    let made = escape_gathered bytes gathered.items gathered.moves gathered.splices v r q old.gathered old.reader look taken_in.moves taken_in.taken own h _ c.requires.row c.in-Some.ensures.taken_in c.in-Some.ensures.asks may c.in-Some.ensures.few less fits in
+    let made = escape_gathered bytes gathered.items gathered.moves gathered.splices v r q old.gathered old.reader look taken_in.moves taken_in.taken own h _ c.requires.stretch c.in-Some.ensures.taken_in c.in-Some.ensures.asks may c.in-Some.ensures.few less fits in
     let counted = subst (λ k. AreGathered (bytes ++ own) (gathered.items + taken_in.taken) (gathered.moves + taken_in.moves + 2)
     (gathered.splices ++ record { afterwards = gathered.items + taken_in.taken; before = gathered.count; count = k; moves = gathered.moves + taken_in.moves + 1; asked = h.notes.asked; named = named } ∷ []) v r) own_long
     (subst (λ k. AreGathered (bytes ++ own) (gathered.items + taken_in.taken) (gathered.moves + taken_in.moves + 2)
@@ -63,7 +63,7 @@ returns-clause-gathered g c = λ r old.
     (record {
       gathered = rw (prefix_put gathered.count (length chunk - gathered.count) taken_in.count chunk part here within) counted;
       reader = ap expanded pending_is
-          ∙ after_is bytes gathered.items gathered.moves gathered.splices v r q old.gathered old.reader look taken_in.moves taken_in.taken own h _ c.requires.row c.in-Some.ensures.taken_in c.in-Some.ensures.asks may c.in-Some.ensures.few less fits
+          ∙ after_is bytes gathered.items gathered.moves gathered.splices v r q old.gathered old.reader look taken_in.moves taken_in.taken own h _ c.requires.stretch c.in-Some.ensures.taken_in c.in-Some.ensures.asks may c.in-Some.ensures.few less fits
           ∙ after_made gathered.splices splice r.half.notes.asked r;
     })
 

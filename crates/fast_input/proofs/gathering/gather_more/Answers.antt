@@ -3,7 +3,7 @@ use Rattle.std.proofs.Common.{◌≡◌, ◌+◌, drop, refl, ap, ◌∙◌, ari
 use Rattle.nr_store.specs.Windows.{rest_of}
 use Rattle.nr_input.specs.Place.{element_item}
 use Rattle.fast_input.specs.declared.gathering.Gathered.{Gathered}
-use Rattle.fast_input.proofs.TextGathered.{row_on, run_copied, run_stops}
+use Rattle.fast_input.proofs.TextGathered.{stretch_on, run_copied, run_stops}
 use Rattle.fast_input.proofs.gathering.gather_more.Goals as goal
 
 pub loop-preserved : goal.loop-preserved
@@ -16,7 +16,7 @@ loop-preserved g c =
     let there = escape.new.gathered in
     let n = run.result in
     let fs = g.I.Items.next_items c.afterwards-rest.result in
-    let row : fs ≡ drop there.items (map element_item rest) = row_on c.loop.gathered.items escape.result there.items (g.I.Items.next_items c.loop.rest) fs rest c.loop.invariant.row c.afterwards-rest.ensures escape.ensures.items in
+    let stretch : fs ≡ drop there.items (map element_item rest) = stretch_on c.loop.gathered.items escape.result there.items (g.I.Items.next_items c.loop.rest) fs rest c.loop.invariant.stretch c.afterwards-rest.ensures escape.ensures.items in
     let before = escape.ensures.gathered r c.loop.invariant.gathered in
     let passed = ap (λ (z : Gathered). z.count) run.ensures.passed in
     let within = run.ensures.count in
@@ -27,10 +27,10 @@ loop-preserved g c =
     rw run.ensures.passed
     (record {
       text = escape.ensures.text;
-      row = row_on there.items n (there.items + n) fs (g.I.Items.next_items c.afterwards-rest-in-loop.result) rest row c.afterwards-rest-in-loop.ensures refl;
+      stretch = stretch_on there.items n (there.items + n) fs (g.I.Items.next_items c.afterwards-rest-in-loop.result) rest stretch c.afterwards-rest-in-loop.ensures refl;
       count = omega (arith, passed, within);
       holds = holds;
       ends = escape.ensures.ends ∙ c.loop.invariant.ends;
-      gathered = run_copied there n escape.new.chunk run.new.chunk fs v row r escape.new.reader before run.ensures.kept run.ensures.bytes (omega (arith, passed, within)) (omega (arith, holds, most));
-      stops = run_stops there n escape.new.chunk run.new.chunk fs v row (omega (arith, holds, room)) (λ less. longest (omega (arith, less, run.ensures.holds)));
+      gathered = run_copied there n escape.new.chunk run.new.chunk fs v stretch r escape.new.reader before run.ensures.kept run.ensures.bytes (omega (arith, passed, within)) (omega (arith, holds, most));
+      stops = run_stops there n escape.new.chunk run.new.chunk fs v stretch (omega (arith, holds, room)) (λ less. longest (omega (arith, less, run.ensures.holds)));
     })

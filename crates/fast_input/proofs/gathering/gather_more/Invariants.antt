@@ -9,7 +9,7 @@ use Rattle.fast_input.proofs.gathering.gather_more.Given as goal
 abbrev pub invariant-loop : goal.invariant-loop
 invariant-loop g l = record {
   text : is_in_text l.reader.half ≡ true;
-  row : g.I.Items.next_items l.rest ≡ drop l.gathered.items (map element_item (rest_of l.store.levels));
+  stretch : g.I.Items.next_items l.rest ≡ drop l.gathered.items (map element_item (rest_of l.store.levels));
   count : l.gathered.count ≤ length l.chunk;
   holds : length l.chunk ≡ length l.fn.chunk;
   ends : l.gathered.ends ≡ l.fn.gathered.ends;

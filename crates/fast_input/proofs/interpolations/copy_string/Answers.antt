@@ -2,7 +2,7 @@ use Rattle.std.specs.Prelude.{map}
 use Rattle.std.proofs.Common.{◌≡◌, Some, length, take, ap, ◌∙◌, subst, arith}
 use Rattle.std.proofs.lemmas.List.{length-map, length-take-le}
 use Rattle.nr_input.specs.Place.{element_item}
-use Rattle.fast_input.specs.Rows.{AreBytes}
+use Rattle.fast_input.specs.Stretches.{AreBytes}
 use Rattle.fast_input.proofs.TextGathered.{all_bytes, string_may}
 use Rattle.fast_input.proofs.interpolations.copy_string.Goals as goal
 

@@ -11,24 +11,24 @@ use Rattle.fast_input.proofs.interpolations.splice_on.Goals as goal
 pub returns-clause-read : goal.returns-clause-read
 returns-clause-read g c = λ k p supply holds.
     let spliced = c.splice_read-spliced.result in
-    let row = c.read_added-row.result in
+    let stretch = c.read_added-stretch.result in
     let v = c.args.store.now in
     let r = c.args.reader.now in
     let w = c.splice_read-spliced.new.store in
     let s = c.splice_read-spliced.new.reader in
     let silent : spliced.event ≡ events.Nothing = elim c.match-matches.branch [ in-Nothing b ↦ b.in-Nothing.is | in_default b ↦ absurd (false≢true (sym b.matches-is ∙ c.if-not-matches.false)) ] in
-    read_on spliced.moves row.moves v w c.read_added-row.new.store r s c.read_added-row.new.reader k p supply row.event
+    read_on spliced.moves stretch.moves v w c.read_added-stretch.new.store r s c.read_added-stretch.new.reader k p supply stretch.event
     (subst (λ (e : Event). HasRead spliced.moves (situation v k r) e w s p supply) silent (c.splice_read-spliced.ensures.read k p supply holds))
-    (λ d there. c.read_added-row.ensures.read d p supply there)
+    (λ d there. c.read_added-stretch.ensures.read d p supply there)
 
 pub returns-clause-pays : goal.returns-clause-pays
 returns-clause-pays g c = λ p.
     let spliced = c.splice_read-spliced.result in
-    let row = c.read_added-row.result in
+    let stretch = c.read_added-stretch.result in
     let v = c.args.store.now in
     let r = c.args.reader.now in
     let w = c.splice_read-spliced.new.store in
     let s = c.splice_read-spliced.new.reader in
     let silent : spliced.event ≡ events.Nothing = elim c.match-matches.branch [ in-Nothing b ↦ b.in-Nothing.is | in_default b ↦ absurd (false≢true (sym b.matches-is ∙ c.if-not-matches.false)) ] in
-    many_then row.moves spliced.moves v w c.read_added-row.new.store p p p r s c.read_added-row.new.reader row.event
-    (subst (λ (e : Event). PaysMany spliced.moves v p r e w p s) silent (c.splice_read-spliced.ensures.pays p)) (c.read_added-row.ensures.pays p)
+    many_then stretch.moves spliced.moves v w c.read_added-stretch.new.store p p p r s c.read_added-stretch.new.reader stretch.event
+    (subst (λ (e : Event). PaysMany spliced.moves v p r e w p s) silent (c.splice_read-spliced.ensures.pays p)) (c.read_added-stretch.ensures.pays p)

@@ -7,7 +7,7 @@ use Rattle.nr_reading.specs.Many.Runs.{HasTakenIn}
 use Rattle.nr_input.specs.Place.{element_item}
 use Rattle.nr_input.specs.Limits.{limits_of}
 use Rattle.fast_input.proofs.LimitsStay.{left_times-limits}
-use Rattle.fast_input.proofs.RowsRead.{level_read, level_pays}
+use Rattle.fast_input.proofs.StretchesRead.{level_read, level_pays}
 use Rattle.fast_input.proofs.level_lines.read_name.Goals as goal
 
 pub returns-clause-read : goal.returns-clause-read

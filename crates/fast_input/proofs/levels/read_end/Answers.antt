@@ -4,7 +4,7 @@ use Rattle.nr_reading.specs.declared.event.Event.TheVariants as events
 use Rattle.nr_input.specs.Moving.{situation}
 use Rattle.fast_input.specs.Runs.{PaysMany}
 use Rattle.fast_input.proofs.LevelParts.{none_paid}
-use Rattle.fast_input.proofs.RowMoves.{reads_nothing}
+use Rattle.fast_input.proofs.StretchMoves.{reads_nothing}
 use Rattle.fast_input.proofs.levels.read_end.Goals as goal
 
 pub returns-then-end_level-clause-read : goal.returns-then-end_level-clause-read

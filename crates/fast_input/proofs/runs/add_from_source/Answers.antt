@@ -6,7 +6,7 @@ use Rattle.fast_input.specs.Runs.{HasRead, PaysAll}
 use Rattle.nr_input.specs.Limits.{limits_of}
 use Rattle.fast_input.proofs.LimitsStay.{with_more-limits}
 use Rattle.fast_input.proofs.Longest.{added_longest}
-use Rattle.fast_input.proofs.RowsRead.{holds_past}
+use Rattle.fast_input.proofs.StretchesRead.{holds_past}
 use Rattle.fast_input.proofs.PuttingRead.{source_added, source_added_pays}
 use Rattle.fast_input.proofs.Targets.{nothing_added}
 use Rattle.fast_input.proofs.runs.add_from_source.Goals as goal

@@ -6,7 +6,7 @@ use Rattle.nr_input.specs.Place.{element_item}
 use Rattle.nr_store.specs.Store.{Stored}
 use Rattle.nr_input.specs.Limits.{limits_of}
 use Rattle.fast_input.proofs.LimitsStay.{left_times-limits}
-use Rattle.fast_input.proofs.RowsRead.{level_read, level_pays, taken-le}
+use Rattle.fast_input.proofs.StretchesRead.{level_read, level_pays, taken-le}
 use Rattle.fast_input.proofs.Longest.{level_longest}
 use Rattle.fast_input.proofs.runs.read_level.Goals as goal
 
@@ -41,10 +41,10 @@ returns-clause-longest g c =
     let run = c.take_in_level-run.result in
     let r = c.args.reader.now in
     let p = spot run c.take_in_level-run.new.half in
-    let row = ap (map element_item) c.rest.ensures in
-    let taken_in : HasTakenIn run.moves (map element_item (rest_of c.args.store.now.levels)) r.half p = subst (λ fs. HasTakenIn run.moves fs r.half p) row c.take_in_level-run.ensures.taken_in in
+    let stretch = ap (map element_item) c.rest.ensures in
+    let taken_in : HasTakenIn run.moves (map element_item (rest_of c.args.store.now.levels)) r.half p = subst (λ fs. HasTakenIn run.moves fs r.half p) stretch c.take_in_level-run.ensures.taken_in in
     level_longest run.moves c.args.store.now c.skip.new.self r (record r { half = p.half }) p taken_in
-    (λ quiet pending_act few byte is. c.take_in_level-run.ensures.longest quiet pending_act few byte (ap (λ fs. slice_get fs run.taken) row ∙ is)) refl c.skip.ensures
+    (λ quiet pending_act few byte is. c.take_in_level-run.ensures.longest quiet pending_act few byte (ap (λ fs. slice_get fs run.taken) stretch ∙ is)) refl c.skip.ensures
 
 pub returns-clause-limits : goal.returns-clause-limits
 returns-clause-limits g c =

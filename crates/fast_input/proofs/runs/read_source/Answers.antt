@@ -4,7 +4,7 @@ use Rattle.std.specs.Prelude.{slice_index}
 use Rattle.std.proofs.lemmas.List.{length-map}
 use Rattle.nr_reading.specs.declared.next_item.NextItem.TheVariants as next_items
 use Rattle.nr_reading.specs.Many.Runs.{spot}
-use Rattle.fast_input.proofs.RowsRead.{none_taken, source_read, source_pays, holds_past}
+use Rattle.fast_input.proofs.StretchesRead.{none_taken, source_read, source_pays, holds_past}
 use Rattle.fast_input.proofs.Longest.{source_longest}
 use Rattle.fast_input.proofs.runs.read_source.Goals as goal
 

@@ -1,6 +1,6 @@
 use Rattle.std.proofs.Common.{◌≡◌, ◌+◌, ◌-◌, refl, sym, ap, ◌∙◌, arith}
 use Rattle.nr_reading.proofs.PlainBytes.{take_in-passed}
-use Rattle.nr_reading.proofs.Rows.{stays, recount, taken_more}
+use Rattle.nr_reading.proofs.Stretches.{stays, recount, taken_more}
 use Rattle.nr_reading.proofs.half.Half.pass_between.Goals as goal
 
 pub loop-place-init : goal.loop-place-init

@@ -1,5 +1,5 @@
 use Rattle.std.proofs.Common.{ℕ, ◌+◌, ◌-◌, ◌≤◌}
-use Rattle.nr_reading.specs.Many.Row.{LeadsOn}
+use Rattle.nr_reading.specs.Many.Stretch.{LeadsOn}
 use Rattle.nr_reading.proofs.half.Half.pass_between.Given as goal
 
 abbrev pub invariant-loop-place : goal.invariant-loop-place

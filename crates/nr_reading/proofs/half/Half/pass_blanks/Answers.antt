@@ -1,5 +1,5 @@
 use Rattle.std.proofs.Common.{◌≡◌, ◌+◌, ◌-◌, refl, sym, ap, ◌∙◌, arith}
-use Rattle.nr_reading.proofs.Rows.{stays, recount, taken_more, looks, take_in-blank}
+use Rattle.nr_reading.proofs.Stretches.{stays, recount, taken_more, looks, take_in-blank}
 use Rattle.nr_reading.proofs.half.Half.pass_blanks.Goals as goal
 
 pub loop-place-init : goal.loop-place-init

@@ -1,5 +1,5 @@
 use Rattle.std.proofs.Common.{◌+◌, ◌-◌, refl, arith}
-use Rattle.nr_reading.proofs.Rows.{recount}
+use Rattle.nr_reading.proofs.Stretches.{recount}
 use Rattle.nr_reading.proofs.half.Half.pass_first_blanks.Goals as goal
 
 pub returns-clause-leads : goal.returns-clause-leads

@@ -1,8 +1,8 @@
 use Rattle.std.proofs.Common.{◌+◌, sym, ◌∙◌}
 use Rattle.nr_reading.specs.declared.half.Half.{Half}
 use Rattle.nr_reading.specs.declared.mode.Mode.TheVariants as modes
-use Rattle.nr_reading.proofs.PartRows.{take_in-part_begins}
-use Rattle.nr_reading.proofs.Rows.{left_more, rest_after, looks}
+use Rattle.nr_reading.proofs.PartStretches.{take_in-part_begins}
+use Rattle.nr_reading.proofs.Stretches.{left_more, rest_after, looks}
 use Rattle.nr_reading.proofs.half.Half.take_in_accepted.Goals as goal
 
 pub returns : goal.returns

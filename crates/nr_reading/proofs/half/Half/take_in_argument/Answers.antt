@@ -5,8 +5,8 @@ use Rattle.nr_reading.specs.declared.event.Event.TheVariants as events
 use Rattle.nr_reading.specs.declared.next_item.NextItem.TheVariants as next_items
 use Rattle.nr_reading.specs.declared.mode.PendingAct.TheVariants as pending_acts
 use Rattle.nr_reading.specs.declared.mode.Mode.TheVariants as modes
-use Rattle.nr_reading.proofs.ArgumentRows.{in_mode, with_pending, take_in-opening_quote, take_in-line_end, take_in-first_byte}
-use Rattle.nr_reading.proofs.Rows.{stays, taken_more, taken_last, rest_after, looks}
+use Rattle.nr_reading.proofs.ArgumentStretches.{in_mode, with_pending, take_in-opening_quote, take_in-line_end, take_in-first_byte}
+use Rattle.nr_reading.proofs.Stretches.{stays, taken_more, taken_last, rest_after, looks}
 use Rattle.nr_reading.proofs.half.Half.take_in_argument.Goals as goal
 
 pub returns-then-byte-eq34 : goal.returns-then-byte-eq34

@@ -5,8 +5,8 @@ use Rattle.nr_reading.specs.declared.event.Event.TheVariants as events
 use Rattle.nr_reading.specs.declared.next_item.NextItem.TheVariants as next_items
 use Rattle.nr_reading.specs.declared.half.Half.{Half}
 use Rattle.nr_reading.specs.declared.mode.Mode.TheVariants as modes
-use Rattle.nr_reading.proofs.RequestRows.{take_in-line_byte, take_in-line_end}
-use Rattle.nr_reading.proofs.Rows.{recount, taken_more, taken_last, looks}
+use Rattle.nr_reading.proofs.RequestStretches.{take_in-line_byte, take_in-line_end}
+use Rattle.nr_reading.proofs.Stretches.{recount, taken_more, taken_last, looks}
 use Rattle.nr_reading.proofs.half.Half.take_in_arguments.Goals as goal
 
 pub returns-then-byte-eq10 : goal.returns-then-byte-eq10

@@ -3,9 +3,9 @@ use Rattle.nr_reading.specs.declared.event.Event.TheVariants as events
 use Rattle.nr_reading.specs.declared.half.Half.{Half}
 use Rattle.nr_reading.specs.Many.LineBeginnings.{text_begun}
 use Rattle.nr_reading.specs.Half.{reads_next}
-use Rattle.nr_reading.specs.Many.Row.{LeadsOn, TakesInRest}
-use Rattle.nr_reading.proofs.LineRows.{take_in-text}
-use Rattle.nr_reading.proofs.Rows.{stays, taken_last, looks, ends_here}
+use Rattle.nr_reading.specs.Many.Stretch.{LeadsOn, TakesInRest}
+use Rattle.nr_reading.proofs.LineStretches.{take_in-text}
+use Rattle.nr_reading.proofs.Stretches.{stays, taken_last, looks, ends_here}
 use Rattle.nr_reading.proofs.half.Half.take_in_beginning.Goals as goal
 
 pub returns-then-from-count : goal.returns-then-from-count

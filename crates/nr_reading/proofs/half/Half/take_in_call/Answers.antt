@@ -2,8 +2,8 @@ use Prim.Native.Char.{code}
 use Rattle.std.proofs.Common.{◌+◌, sym, ◌∙◌}
 use Rattle.std.proofs.lemmas.Bool.{ne_eqb}
 use Rattle.nr_reading.specs.declared.mode.Mode.TheVariants as modes
-use Rattle.nr_reading.proofs.ArgumentRows.{in_mode, take_in-arguments_begin}
-use Rattle.nr_reading.proofs.Rows.{left_more, rest_after, looks}
+use Rattle.nr_reading.proofs.ArgumentStretches.{in_mode, take_in-arguments_begin}
+use Rattle.nr_reading.proofs.Stretches.{left_more, rest_after, looks}
 use Rattle.nr_reading.proofs.half.Half.take_in_call.Goals as goal
 
 pub returns : goal.returns

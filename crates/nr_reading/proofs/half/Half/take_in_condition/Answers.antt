@@ -2,8 +2,8 @@ use Prim.Native.Char.{code}
 use Rattle.std.proofs.Common.{◌+◌, Some, ap, ◌∙◌}
 use Rattle.nr_reading.specs.declared.next_item.NextItem.TheVariants as next_items
 use Rattle.nr_reading.specs.declared.half.Half.{Half}
-use Rattle.nr_reading.proofs.ConditionRows.{take_in-negation}
-use Rattle.nr_reading.proofs.Rows.{taken_more, rest_after, looks}
+use Rattle.nr_reading.proofs.ConditionStretches.{take_in-negation}
+use Rattle.nr_reading.proofs.Stretches.{taken_more, rest_after, looks}
 use Rattle.nr_reading.proofs.half.Half.take_in_condition.Goals as goal
 
 pub returns-in-Some-eq33 : goal.returns-in-Some-eq33

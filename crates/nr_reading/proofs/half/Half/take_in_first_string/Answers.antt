@@ -2,8 +2,8 @@ use Rattle.std.proofs.Common.{◌+◌, ◌-◌, refl, sym, ◌∙◌, arith}
 use Rattle.std.proofs.lemmas.Bool.{eq-eqb, ne_eqb}
 use Rattle.nr_reading.specs.declared.half.Half.{Half}
 use Rattle.nr_reading.specs.declared.mode.Mode.TheVariants as modes
-use Rattle.nr_reading.proofs.ConditionRows.{take_in-first_byte, take_in-first_end}
-use Rattle.nr_reading.proofs.Rows.{recount, taken_more, rest_after, looks}
+use Rattle.nr_reading.proofs.ConditionStretches.{take_in-first_byte, take_in-first_end}
+use Rattle.nr_reading.proofs.Stretches.{recount, taken_more, rest_after, looks}
 use Rattle.nr_reading.proofs.half.Half.take_in_first_string.Goals as goal
 
 pub loop-place-preserved : goal.loop-place-preserved

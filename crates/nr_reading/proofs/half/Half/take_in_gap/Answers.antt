@@ -1,8 +1,8 @@
 use Prim.Native.Char.{code}
 use Rattle.std.proofs.Common.{Some, ap, ◌∙◌}
 use Rattle.nr_reading.specs.declared.next_item.NextItem.TheVariants as next_items
-use Rattle.nr_reading.proofs.ArgumentRows.{take_in-space}
-use Rattle.nr_reading.proofs.Rows.{stays, taken_more, rest_after, looks}
+use Rattle.nr_reading.proofs.ArgumentStretches.{take_in-space}
+use Rattle.nr_reading.proofs.Stretches.{stays, taken_more, rest_after, looks}
 use Rattle.nr_reading.proofs.half.Half.take_in_gap.Goals as goal
 
 pub returns-in-Some-eq32 : goal.returns-in-Some-eq32

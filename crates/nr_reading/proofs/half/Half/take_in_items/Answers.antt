@@ -1,4 +1,4 @@
-use Rattle.nr_reading.proofs.Rows.{taken_in_here}
+use Rattle.nr_reading.proofs.Stretches.{taken_in_here}
 use Rattle.nr_reading.proofs.half.Half.take_in_items.Goals as goal
 
 pub returns-then-reads_plainly-clause-taken_in : goal.returns-then-reads_plainly-clause-taken_in

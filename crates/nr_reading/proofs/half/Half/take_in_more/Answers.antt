@@ -2,7 +2,7 @@ use Rattle.std.proofs.Common.{◌≡◌, ◌+◌, ◌-◌, ◌≤◌, length, re
 use Rattle.std.proofs.lemmas.Bool.{false≢true}
 use Rattle.std.proofs.lemmas.Option.{slice_get_past}
 use Rattle.nr_reading.specs.declared.event.Event.TheVariants as events
-use Rattle.nr_reading.proofs.Rows.{leads_after, leads_taken_in}
+use Rattle.nr_reading.proofs.Stretches.{leads_after, leads_taken_in}
 use Rattle.nr_reading.proofs.half.Half.take_in_more.Goals as goal
 use Rattle.nr_reading.proofs.half.Half.take_in_more.Goals.{in-Nothing, in_default-matches, in-Look, in_default-matches-2}
 

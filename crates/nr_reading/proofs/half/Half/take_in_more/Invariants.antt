@@ -1,6 +1,6 @@
 use Rattle.std.proofs.Common.{◌≡◌, ◌≤◌, ◌-◌}
 use Rattle.nr_reading.specs.declared.mode.PendingAct.TheVariants as pending_acts
-use Rattle.nr_reading.specs.Many.Row.{LeadsOn}
+use Rattle.nr_reading.specs.Many.Stretch.{LeadsOn}
 use Rattle.nr_reading.proofs.half.Half.take_in_more.Given as goal
 
 abbrev pub invariant-loop-taken : goal.invariant-loop-taken

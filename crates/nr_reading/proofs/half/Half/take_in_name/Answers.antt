@@ -1,7 +1,7 @@
 use Rattle.std.proofs.Common.{◌+◌, sym, ◌∙◌, arith}
 use Rattle.std.proofs.lemmas.Bool.{false≢true}
 use Rattle.std.proofs.lemmas.Option.{IfSome_then}
-use Rattle.nr_reading.proofs.Rows.{nothing_taken_in, looking_next, recount}
+use Rattle.nr_reading.proofs.Stretches.{nothing_taken_in, looking_next, recount}
 use Rattle.nr_reading.proofs.half.Half.take_in_name.Goals.{in-Start, in_default}
 use Rattle.nr_reading.proofs.half.Half.take_in_name.Goals as goal
 

@@ -1,7 +1,7 @@
 use Rattle.std.proofs.Common.{◌≡◌, ◌+◌, subst, arith}
 use Rattle.std.proofs.lemmas.Option.{IfSome_then}
 use Rattle.nr_reading.specs.Many.Runs.{HasTakenIn, spot}
-use Rattle.nr_reading.proofs.Rows.{nothing_taken_in}
+use Rattle.nr_reading.proofs.Stretches.{nothing_taken_in}
 use Rattle.nr_reading.proofs.half.Half.take_in_next.Goals as goal
 
 pub returns-in-Some-eq92-clause-taken_in : goal.returns-in-Some-eq92-clause-taken_in

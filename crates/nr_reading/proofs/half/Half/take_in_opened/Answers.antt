@@ -1,8 +1,8 @@
 use Rattle.std.proofs.Common.{◌+◌, sym, ◌∙◌}
 use Rattle.nr_reading.specs.declared.half.Half.{Half}
 use Rattle.nr_reading.specs.declared.mode.Mode.TheVariants as modes
-use Rattle.nr_reading.proofs.PartRows.{opened, brace_stands}
-use Rattle.nr_reading.proofs.Rows.{rest_after}
+use Rattle.nr_reading.proofs.PartStretches.{opened, brace_stands}
+use Rattle.nr_reading.proofs.Stretches.{rest_after}
 use Rattle.nr_reading.proofs.half.Half.take_in_opened.Goals as goal
 
 pub returns : goal.returns

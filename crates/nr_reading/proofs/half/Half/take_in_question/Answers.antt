@@ -1,8 +1,8 @@
 use Rattle.std.proofs.Common.{◌+◌, sym, ◌∙◌}
 use Rattle.nr_reading.specs.declared.half.Half.{Half}
 use Rattle.nr_reading.specs.declared.mode.Mode.TheVariants as modes
-use Rattle.nr_reading.proofs.ConditionRows.{take_in-number_begins, take_in-delimiter}
-use Rattle.nr_reading.proofs.Rows.{stays, taken_more, left_more, rest_after, looks}
+use Rattle.nr_reading.proofs.ConditionStretches.{take_in-number_begins, take_in-delimiter}
+use Rattle.nr_reading.proofs.Stretches.{stays, taken_more, left_more, rest_after, looks}
 use Rattle.nr_reading.proofs.half.Half.take_in_question.Goals as goal
 
 pub returns-then-begins_number : goal.returns-then-begins_number

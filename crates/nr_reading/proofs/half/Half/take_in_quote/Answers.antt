@@ -4,8 +4,8 @@ use Rattle.std.proofs.lemmas.Bool.{ne_eqb}
 use Rattle.nr_reading.specs.declared.event.Event.TheVariants as events
 use Rattle.nr_reading.specs.declared.mode.PendingAct.TheVariants as pending_acts
 use Rattle.nr_reading.specs.declared.mode.Mode.TheVariants as modes
-use Rattle.nr_reading.proofs.ArgumentRows.{with_pending, take_in-after_quote}
-use Rattle.nr_reading.proofs.Rows.{stays, left_last, looks}
+use Rattle.nr_reading.proofs.ArgumentStretches.{with_pending, take_in-after_quote}
+use Rattle.nr_reading.proofs.Stretches.{stays, left_last, looks}
 use Rattle.nr_reading.proofs.half.Half.take_in_quote.Goals as goal
 
 pub returns : goal.returns

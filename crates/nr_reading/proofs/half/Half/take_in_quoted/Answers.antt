@@ -6,8 +6,8 @@ use Rattle.nr_reading.specs.declared.next_item.NextItem.TheVariants as next_item
 use Rattle.nr_reading.specs.declared.half.Half.{Half}
 use Rattle.nr_reading.specs.declared.mode.PendingAct.TheVariants as pending_acts
 use Rattle.nr_reading.specs.declared.mode.Mode.TheVariants as modes
-use Rattle.nr_reading.proofs.ArgumentRows.{in_mode, take_in-closing_quote, take_in-quoted_byte}
-use Rattle.nr_reading.proofs.Rows.{stays, taken_more, taken_last, rest_after, looks}
+use Rattle.nr_reading.proofs.ArgumentStretches.{in_mode, take_in-closing_quote, take_in-quoted_byte}
+use Rattle.nr_reading.proofs.Stretches.{stays, taken_more, taken_last, rest_after, looks}
 use Rattle.nr_reading.proofs.half.Half.take_in_quoted.Goals as goal
 
 pub returns-then-byte-eq34 : goal.returns-then-byte-eq34

@@ -5,8 +5,8 @@ use Rattle.std.proofs.lemmas.Bool.{ne_eqb}
 use Rattle.nr_reading.specs.declared.next_item.NextItem.TheVariants as next_items
 use Rattle.nr_reading.specs.declared.half.Half.{Half}
 use Rattle.nr_reading.specs.declared.mode.Mode.TheVariants as modes
-use Rattle.nr_reading.proofs.PartRows.{take_in-dropped, take_in-rejected_end, skipped}
-use Rattle.nr_reading.proofs.Rows.{recount, taken_more, rest_after, looks}
+use Rattle.nr_reading.proofs.PartStretches.{take_in-dropped, take_in-rejected_end, skipped}
+use Rattle.nr_reading.proofs.Stretches.{recount, taken_more, rest_after, looks}
 use Rattle.nr_reading.proofs.half.Half.take_in_rejected.Goals.{else-byte-eq10-via-then-byte-eq10+else-level-eq0, else-byte-eq10-via-else-byte-eq10}
 use Rattle.nr_reading.proofs.half.Half.take_in_rejected.Goals as goal
 

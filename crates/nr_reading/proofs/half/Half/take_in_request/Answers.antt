@@ -3,8 +3,8 @@ use Rattle.std.proofs.Common.{◌+◌, sym, ◌∙◌}
 use Rattle.std.proofs.lemmas.Bool.{ne_eqb}
 use Rattle.nr_reading.specs.declared.half.Half.{Half}
 use Rattle.nr_reading.specs.declared.mode.Mode.TheVariants as modes
-use Rattle.nr_reading.proofs.RequestRows.{take_in-line_begins}
-use Rattle.nr_reading.proofs.Rows.{left_more, rest_after, looks}
+use Rattle.nr_reading.proofs.RequestStretches.{take_in-line_begins}
+use Rattle.nr_reading.proofs.Stretches.{left_more, rest_after, looks}
 use Rattle.nr_reading.proofs.half.Half.take_in_request.Goals as goal
 
 pub returns : goal.returns

@@ -3,8 +3,8 @@ use Rattle.std.proofs.lemmas.Bool.{eq-eqb, ne_eqb}
 use Rattle.nr_reading.specs.declared.event.Event.TheVariants as events
 use Rattle.nr_reading.specs.declared.half.Half.{Half}
 use Rattle.nr_reading.specs.declared.mode.PendingAct.TheVariants as pending_acts
-use Rattle.nr_reading.proofs.ConditionRows.{take_in-second_byte, take_in-second_end}
-use Rattle.nr_reading.proofs.Rows.{recount, taken_more, taken_last, looks}
+use Rattle.nr_reading.proofs.ConditionStretches.{take_in-second_byte, take_in-second_end}
+use Rattle.nr_reading.proofs.Stretches.{recount, taken_more, taken_last, looks}
 use Rattle.nr_reading.proofs.half.Half.take_in_second_string.Goals as goal
 
 pub loop-place-preserved : goal.loop-place-preserved

@@ -1,7 +1,7 @@
 use Rattle.std.proofs.Common.{◌≡◌, ◌+◌, ◌-◌, ◌≤◌, true}
 use Rattle.nr_reading.specs.declared.mode.Mode.TheVariants as modes
 use Rattle.nr_reading.specs.Half.{reads_next}
-use Rattle.nr_reading.specs.Many.Row.{LeadsOn}
+use Rattle.nr_reading.specs.Many.Stretch.{LeadsOn}
 use Rattle.nr_reading.proofs.half.Half.take_in_second_string.Given as goal
 
 abbrev pub invariant-loop-place : goal.invariant-loop-place

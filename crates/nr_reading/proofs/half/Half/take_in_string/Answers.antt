@@ -5,11 +5,11 @@ use Rattle.std.proofs.lemmas.Bool.{false≢true, ne_eqb}
 use Rattle.nr_reading.specs.declared.half.Half.{Half}
 use Rattle.nr_reading.specs.declared.spelled.Spelled.{Spelled}
 use Rattle.nr_reading.specs.Many.ControlNames.{NameEnds, goes_on_name}
-use Rattle.nr_reading.specs.Many.Row.{LeadsOn}
+use Rattle.nr_reading.specs.Many.Stretch.{LeadsOn}
 use Rattle.nr_reading.specs.Spelled.{nothing_spelled, spelled}
-use Rattle.nr_reading.specs.Many.StringRows.{after_name}
-use Rattle.nr_reading.proofs.Rows.{recount, rest_after}
-use Rattle.nr_reading.proofs.StringRows.{lone_named, pair_named}
+use Rattle.nr_reading.specs.Many.StringStretches.{after_name}
+use Rattle.nr_reading.proofs.Stretches.{recount, rest_after}
+use Rattle.nr_reading.proofs.StringStretches.{lone_named, pair_named}
 use Rattle.nr_reading.proofs.half.Half.take_in_string.Goals.{else-long-via-then-long+else-not-name_ends, else-long-via-else-long}
 use Rattle.nr_reading.proofs.half.Half.take_in_string.Goals as goal
 

@@ -3,8 +3,8 @@ use Rattle.std.proofs.Common.{◌+◌, ◌-◌, Some, ap, sym, ◌∙◌, arith}
 use Rattle.std.proofs.lemmas.Bool.{ne_eqb}
 use Rattle.nr_reading.specs.declared.event.Event.TheVariants as events
 use Rattle.nr_reading.specs.declared.next_item.NextItem.TheVariants as next_items
-use Rattle.nr_reading.proofs.Rows.{taken_last, left_last, rest_after, looks}
-use Rattle.nr_reading.proofs.StringRows.{begun_text, take_in-quote, take_in-text_begins}
+use Rattle.nr_reading.proofs.Stretches.{taken_last, left_last, rest_after, looks}
+use Rattle.nr_reading.proofs.StringStretches.{begun_text, take_in-quote, take_in-text_begins}
 use Rattle.nr_reading.proofs.half.Half.take_in_string_blanks.Goals as goal
 
 pub returns-then-byte-eq34 : goal.returns-then-byte-eq34

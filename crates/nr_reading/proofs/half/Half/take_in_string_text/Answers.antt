@@ -6,8 +6,8 @@ use Rattle.nr_reading.specs.declared.next_item.NextItem.TheVariants as next_item
 use Rattle.nr_reading.specs.declared.half.Half.{Half}
 use Rattle.nr_reading.specs.declared.mode.PendingAct.TheVariants as pending_acts
 use Rattle.nr_reading.specs.declared.mode.Mode.TheVariants as modes
-use Rattle.nr_reading.proofs.Rows.{stays, taken_last, looks}
-use Rattle.nr_reading.proofs.StringRows.{take_in-text_byte, take_in-text_end}
+use Rattle.nr_reading.proofs.Stretches.{stays, taken_last, looks}
+use Rattle.nr_reading.proofs.StringStretches.{take_in-text_byte, take_in-text_end}
 use Rattle.nr_reading.proofs.half.Half.take_in_string_text.Goals as goal
 
 pub returns-then-byte-eq10 : goal.returns-then-byte-eq10

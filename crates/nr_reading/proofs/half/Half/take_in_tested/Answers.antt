@@ -5,8 +5,8 @@ use Rattle.nr_reading.specs.declared.event.Event.TheVariants as events
 use Rattle.nr_reading.specs.declared.event.Question.TheVariants as questions
 use Rattle.nr_reading.specs.declared.half.Half.{Half}
 use Rattle.nr_reading.specs.declared.mode.Mode.TheVariants as modes
-use Rattle.nr_reading.proofs.ConditionRows.{take_in-number_digit, take_in-number_byte, take_in-number_end}
-use Rattle.nr_reading.proofs.Rows.{recount, taken_more, left_last, looks}
+use Rattle.nr_reading.proofs.ConditionStretches.{take_in-number_digit, take_in-number_byte, take_in-number_end}
+use Rattle.nr_reading.proofs.Stretches.{recount, taken_more, left_last, looks}
 use Rattle.nr_reading.proofs.half.Half.take_in_tested.Goals as goal
 
 pub returns-then-ends_number : goal.returns-then-ends_number

@@ -4,8 +4,8 @@ use Rattle.nr_reading.specs.declared.event.Event.TheVariants as events
 use Rattle.nr_reading.specs.declared.next_item.NextItem.TheVariants as next_items
 use Rattle.nr_reading.specs.declared.mode.PendingAct.TheVariants as pending_acts
 use Rattle.nr_reading.specs.declared.mode.Mode.TheVariants as modes
-use Rattle.nr_reading.proofs.ArgumentRows.{with_pending, take_in-word_end, take_in-word_space}
-use Rattle.nr_reading.proofs.Rows.{stays, taken_last, left_last, looks}
+use Rattle.nr_reading.proofs.ArgumentStretches.{with_pending, take_in-word_end, take_in-word_space}
+use Rattle.nr_reading.proofs.Stretches.{stays, taken_last, left_last, looks}
 use Rattle.nr_reading.proofs.half.Half.take_in_word.Goals as goal
 
 pub returns-in-Some-eq10 : goal.returns-in-Some-eq10

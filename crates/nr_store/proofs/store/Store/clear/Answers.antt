@@ -2,7 +2,7 @@ use Rattle.std.proofs.Common.{◌≡◌, [], length, map, ap, ◌∙◌, arith}
 use Rattle.std.proofs.lemmas.List.{length-replicate}
 use Rattle.nr_vectors.specs.Items.{Items}
 use Rattle.nr_pool.specs.Texts.{no_text}
-use Rattle.nr_symbol_tables.specs.Rows.{Table}
+use Rattle.nr_symbol_tables.specs.Rows.{SymbolTable}
 use Rattle.nr_symbol_tables.specs.Given.{word_in}
 use Rattle.nr_levels.specs.Levels.{Levels}
 use Rattle.nr_levels.specs.Gathering.{Gathering, none_gathered}
@@ -22,18 +22,18 @@ invariant_of-self g c =
     let empty = c.remove_all.ensures.empty in
     let capacity = c.remove_all.ensures.capacity in
     let before = c.clear.ensures in
-    let named = ap (λ (t : Table _). t.entries) c.name_requests.ensures ∙ ap (λ (t : Table _). with_senses REQUESTS t.entries) before in
-    let room = ap (λ (t : Table _). t.capacity) c.name_requests.ensures ∙ ap (λ (t : Table _). t.capacity) before in
+    let named = ap (λ (t : SymbolTable _). t.entries) c.name_requests.ensures ∙ ap (λ (t : SymbolTable _). with_senses REQUESTS t.entries) before in
+    let room = ap (λ (t : SymbolTable _). t.capacity) c.name_requests.ensures ∙ ap (λ (t : SymbolTable _). t.capacity) before in
     let drafts_room = ap (λ (v : Items _). v.capacity) c.clear-2.ensures in
     let levels_room = ap (λ (v : Levels _). v.capacity) c.clear-3.ensures in
     let gathering_room = ap (λ (v : Gathering). v.capacity) c.clear-4.ensures in
-    let registers_room = ap (λ (v : Table _). v.capacity) c.clear-5.ensures in
+    let registers_room = ap (λ (v : SymbolTable _). v.capacity) c.clear-5.ensures in
     let traps_room = c.clear-6.ensures.room in
     let words_room = ap (λ (v : Items _). v.capacity) c.clear-7.ensures in
     let texts : length c.remove_all.new.self.texts ≡ n = ap length empty ∙ length-replicate n (no_text {T = Element}) in
     let no_words = ap (λ (v : Items _). charge_beside none_gathered [] [] (map word_in v.items)) c.clear-7.ensures in
     let no_gathered = ap (λ (v : Gathering). charge_beside v.gathered [] [] []) c.clear-4.ensures in
-    let no_registers = ap (λ (v : Table _). length v.entries) c.clear-5.ensures in
+    let no_registers = ap (λ (v : SymbolTable _). length v.entries) c.clear-5.ensures in
     let no_traps = ap length c.clear-6.ensures.items in
     let small = kept.small in
     let elements = kept.elements_suffice in
@@ -53,7 +53,7 @@ invariant_of-self g c =
 pub returns : goal.returns
 returns g c =
     let s = c.self.inside in
-    let named = ap (λ (t : Table _). t.entries) c.name_requests.ensures ∙ ap (λ (t : Table _). with_senses REQUESTS t.entries) c.clear.ensures in
+    let named = ap (λ (t : SymbolTable _). t.entries) c.name_requests.ensures ∙ ap (λ (t : SymbolTable _). with_senses REQUESTS t.entries) c.clear.ensures in
     begun c.remove_all.new.self _ c.clear-2.new.self c.clear-3.new.self c.clear-4.new.self c.clear-5.new.self c.clear-6.new.self c.clear-7.new.self s.stored _ s.levels.most named
-    (ap (λ (v : Items _). v.items) c.clear-2.ensures) c.clear-3.ensures (ap (λ (v : Gathering). v.gathered) c.clear-4.ensures) (ap (λ (t : Table _). t.entries) c.clear-5.ensures) c.clear-6.ensures.items
+    (ap (λ (v : Items _). v.items) c.clear-2.ensures) c.clear-3.ensures (ap (λ (v : Gathering). v.gathered) c.clear-4.ensures) (ap (λ (t : SymbolTable _). t.entries) c.clear-5.ensures) c.clear-6.ensures.items
     (ap (λ (v : Items _). v.items) c.clear-7.ensures) ∙ ap (λ (v : Stored _). nothing request_names v.limit v.deepest) c.self.view_is

@@ -1,7 +1,7 @@
 use Rattle.std.proofs.Common.{refl, ap, ◌∙◌, arith}
 use Rattle.nr_store.specs.Holders.{beside_of}
 use Rattle.nr_symbol_tables.specs.Table.{find}
-use Rattle.nr_symbol_tables.specs.Rows.{Table}
+use Rattle.nr_symbol_tables.specs.Rows.{SymbolTable}
 use Rattle.nr_store.proofs.Dropping.{text_dropped, request_given_up, taken_none, unmoved, room_again, changed_new, changed_again}
 use Rattle.nr_store.proofs.store.Store.move_name.Goals as goal
 
@@ -28,42 +28,42 @@ put-requires g c =
 pub invariant_of-self-in_default-put : goal.invariant_of-self-in_default-put
 invariant_of-self-in_default-put g c =
     let s = c.self.inside in
-    rw (c.put.ensures.is, c.remove.ensures.is) (changed_new s.pool s.names s.drafts s.levels (beside_of s.gathering s.registers s.traps s.words) s.charge s.stored c.args.from c.args.to c.remove.result c.put.result c.args.self.now c.self.invariant c.self.view_is c.remove.ensures.was c.in-Some.sense c.in-Some.is (c.put.ensures.was ∙ ap (λ (t : Table _). find c.args.to t.entries) c.remove.ensures.is) c.in_default-put.is).stands
+    rw (c.put.ensures.is, c.remove.ensures.is) (changed_new s.pool s.names s.drafts s.levels (beside_of s.gathering s.registers s.traps s.words) s.charge s.stored c.args.from c.args.to c.remove.result c.put.result c.args.self.now c.self.invariant c.self.view_is c.remove.ensures.was c.in-Some.sense c.in-Some.is (c.put.ensures.was ∙ ap (λ (t : SymbolTable _). find c.args.to t.entries) c.remove.ensures.is) c.in_default-put.is).stands
 
 pub returns-in_default-put-clause-is : goal.returns-in_default-put-clause-is
 returns-in_default-put-clause-is g c =
     let s = c.self.inside in
-    rw (c.put.ensures.is, c.remove.ensures.is) (changed_new s.pool s.names s.drafts s.levels (beside_of s.gathering s.registers s.traps s.words) s.charge s.stored c.args.from c.args.to c.remove.result c.put.result c.args.self.now c.self.invariant c.self.view_is c.remove.ensures.was c.in-Some.sense c.in-Some.is (c.put.ensures.was ∙ ap (λ (t : Table _). find c.args.to t.entries) c.remove.ensures.is) c.in_default-put.is).is
+    rw (c.put.ensures.is, c.remove.ensures.is) (changed_new s.pool s.names s.drafts s.levels (beside_of s.gathering s.registers s.traps s.words) s.charge s.stored c.args.from c.args.to c.remove.result c.put.result c.args.self.now c.self.invariant c.self.view_is c.remove.ensures.was c.in-Some.sense c.in-Some.is (c.put.ensures.was ∙ ap (λ (t : SymbolTable _). find c.args.to t.entries) c.remove.ensures.is) c.in_default-put.is).is
 
 pub returns-in_default-put-clause-no_more : goal.returns-in_default-put-clause-no_more
 returns-in_default-put-clause-no_more g c =
     let s = c.self.inside in
-    rw (c.put.ensures.is, c.remove.ensures.is, ← c.self.view_is) (changed_new s.pool s.names s.drafts s.levels (beside_of s.gathering s.registers s.traps s.words) s.charge s.stored c.args.from c.args.to c.remove.result c.put.result c.args.self.now c.self.invariant c.self.view_is c.remove.ensures.was c.in-Some.sense c.in-Some.is (c.put.ensures.was ∙ ap (λ (t : Table _). find c.args.to t.entries) c.remove.ensures.is) c.in_default-put.is).no_more
+    rw (c.put.ensures.is, c.remove.ensures.is, ← c.self.view_is) (changed_new s.pool s.names s.drafts s.levels (beside_of s.gathering s.registers s.traps s.words) s.charge s.stored c.args.from c.args.to c.remove.result c.put.result c.args.self.now c.self.invariant c.self.view_is c.remove.ensures.was c.in-Some.sense c.in-Some.is (c.put.ensures.was ∙ ap (λ (t : SymbolTable _). find c.args.to t.entries) c.remove.ensures.is) c.in_default-put.is).no_more
 
 pub invariant_of-self-in_default-old : goal.invariant_of-self-in_default-old
 invariant_of-self-in_default-old g c =
     let s = c.self.inside in
-    rw (c.put.ensures.is, c.remove.ensures.is) (request_given_up s.pool s.names s.drafts s.levels (beside_of s.gathering s.registers s.traps s.words) s.charge s.stored _ _ _ _ c.self.invariant (changed_again s.pool s.names s.drafts s.levels (beside_of s.gathering s.registers s.traps s.words) s.charge s.stored c.args.from c.args.to c.remove.result c.put.result c.args.self.now c.self.invariant c.self.view_is c.remove.ensures.was c.in-Some.sense c.in-Some.is (c.put.ensures.was ∙ ap (λ (t : Table _). find c.args.to t.entries) c.remove.ensures.is) c.in-Some-put.old c.in-Some-put.is) _ c.in_default-old.is).stands
+    rw (c.put.ensures.is, c.remove.ensures.is) (request_given_up s.pool s.names s.drafts s.levels (beside_of s.gathering s.registers s.traps s.words) s.charge s.stored _ _ _ _ c.self.invariant (changed_again s.pool s.names s.drafts s.levels (beside_of s.gathering s.registers s.traps s.words) s.charge s.stored c.args.from c.args.to c.remove.result c.put.result c.args.self.now c.self.invariant c.self.view_is c.remove.ensures.was c.in-Some.sense c.in-Some.is (c.put.ensures.was ∙ ap (λ (t : SymbolTable _). find c.args.to t.entries) c.remove.ensures.is) c.in-Some-put.old c.in-Some-put.is) _ c.in_default-old.is).stands
 
 pub returns-in_default-old-clause-is : goal.returns-in_default-old-clause-is
 returns-in_default-old-clause-is g c =
     let s = c.self.inside in
-    rw (c.put.ensures.is, c.remove.ensures.is) (request_given_up s.pool s.names s.drafts s.levels (beside_of s.gathering s.registers s.traps s.words) s.charge s.stored _ _ _ _ c.self.invariant (changed_again s.pool s.names s.drafts s.levels (beside_of s.gathering s.registers s.traps s.words) s.charge s.stored c.args.from c.args.to c.remove.result c.put.result c.args.self.now c.self.invariant c.self.view_is c.remove.ensures.was c.in-Some.sense c.in-Some.is (c.put.ensures.was ∙ ap (λ (t : Table _). find c.args.to t.entries) c.remove.ensures.is) c.in-Some-put.old c.in-Some-put.is) _ c.in_default-old.is).is
+    rw (c.put.ensures.is, c.remove.ensures.is) (request_given_up s.pool s.names s.drafts s.levels (beside_of s.gathering s.registers s.traps s.words) s.charge s.stored _ _ _ _ c.self.invariant (changed_again s.pool s.names s.drafts s.levels (beside_of s.gathering s.registers s.traps s.words) s.charge s.stored c.args.from c.args.to c.remove.result c.put.result c.args.self.now c.self.invariant c.self.view_is c.remove.ensures.was c.in-Some.sense c.in-Some.is (c.put.ensures.was ∙ ap (λ (t : SymbolTable _). find c.args.to t.entries) c.remove.ensures.is) c.in-Some-put.old c.in-Some-put.is) _ c.in_default-old.is).is
 
 pub returns-in_default-old-clause-no_more : goal.returns-in_default-old-clause-no_more
 returns-in_default-old-clause-no_more g c =
     let s = c.self.inside in
-    rw (c.put.ensures.is, c.remove.ensures.is, ← c.self.view_is) (request_given_up s.pool s.names s.drafts s.levels (beside_of s.gathering s.registers s.traps s.words) s.charge s.stored _ _ _ _ c.self.invariant (changed_again s.pool s.names s.drafts s.levels (beside_of s.gathering s.registers s.traps s.words) s.charge s.stored c.args.from c.args.to c.remove.result c.put.result c.args.self.now c.self.invariant c.self.view_is c.remove.ensures.was c.in-Some.sense c.in-Some.is (c.put.ensures.was ∙ ap (λ (t : Table _). find c.args.to t.entries) c.remove.ensures.is) c.in-Some-put.old c.in-Some-put.is) _ c.in_default-old.is).no_more
+    rw (c.put.ensures.is, c.remove.ensures.is, ← c.self.view_is) (request_given_up s.pool s.names s.drafts s.levels (beside_of s.gathering s.registers s.traps s.words) s.charge s.stored _ _ _ _ c.self.invariant (changed_again s.pool s.names s.drafts s.levels (beside_of s.gathering s.registers s.traps s.words) s.charge s.stored c.args.from c.args.to c.remove.result c.put.result c.args.self.now c.self.invariant c.self.view_is c.remove.ensures.was c.in-Some.sense c.in-Some.is (c.put.ensures.was ∙ ap (λ (t : SymbolTable _). find c.args.to t.entries) c.remove.ensures.is) c.in-Some-put.old c.in-Some-put.is) _ c.in_default-old.is).no_more
 
 pub lone_share-requires-clause-is_open : goal.lone_share-requires-clause-is_open
 lone_share-requires-clause-is_open g c =
     let s = c.self.inside in
-    (text_dropped s.pool s.names s.drafts s.levels (beside_of s.gathering s.registers s.traps s.words) s.charge s.stored _ _ _ _ c.self.invariant (changed_again s.pool s.names s.drafts s.levels (beside_of s.gathering s.registers s.traps s.words) s.charge s.stored c.args.from c.args.to c.remove.result c.put.result c.args.self.now c.self.invariant c.self.view_is c.remove.ensures.was c.in-Some.sense c.in-Some.is (c.put.ensures.was ∙ ap (λ (t : Table _). find c.args.to t.entries) c.remove.ensures.is) c.in-Some-put.old c.in-Some-put.is) c.in-Text.old c.in-Text.is).is_open
+    (text_dropped s.pool s.names s.drafts s.levels (beside_of s.gathering s.registers s.traps s.words) s.charge s.stored _ _ _ _ c.self.invariant (changed_again s.pool s.names s.drafts s.levels (beside_of s.gathering s.registers s.traps s.words) s.charge s.stored c.args.from c.args.to c.remove.result c.put.result c.args.self.now c.self.invariant c.self.view_is c.remove.ensures.was c.in-Some.sense c.in-Some.is (c.put.ensures.was ∙ ap (λ (t : SymbolTable _). find c.args.to t.entries) c.remove.ensures.is) c.in-Some-put.old c.in-Some-put.is) c.in-Text.old c.in-Text.is).is_open
 
 pub lone_share-requires-clause-small : goal.lone_share-requires-clause-small
 lone_share-requires-clause-small g c =
     let s = c.self.inside in
-    let short = (text_dropped s.pool s.names s.drafts s.levels (beside_of s.gathering s.registers s.traps s.words) s.charge s.stored _ _ _ _ c.self.invariant (changed_again s.pool s.names s.drafts s.levels (beside_of s.gathering s.registers s.traps s.words) s.charge s.stored c.args.from c.args.to c.remove.result c.put.result c.args.self.now c.self.invariant c.self.view_is c.remove.ensures.was c.in-Some.sense c.in-Some.is (c.put.ensures.was ∙ ap (λ (t : Table _). find c.args.to t.entries) c.remove.ensures.is) c.in-Some-put.old c.in-Some-put.is) c.in-Text.old c.in-Text.is).short in
+    let short = (text_dropped s.pool s.names s.drafts s.levels (beside_of s.gathering s.registers s.traps s.words) s.charge s.stored _ _ _ _ c.self.invariant (changed_again s.pool s.names s.drafts s.levels (beside_of s.gathering s.registers s.traps s.words) s.charge s.stored c.args.from c.args.to c.remove.result c.put.result c.args.self.now c.self.invariant c.self.view_is c.remove.ensures.was c.in-Some.sense c.in-Some.is (c.put.ensures.was ∙ ap (λ (t : SymbolTable _). find c.args.to t.entries) c.remove.ensures.is) c.in-Some-put.old c.in-Some-put.is) c.in-Text.old c.in-Text.is).short in
     let below = c.self.invariant.within in
     let small = c.self.invariant.small in
     omega arith
@@ -71,7 +71,7 @@ lone_share-requires-clause-small g c =
 pub overflow_add-self : goal.overflow_add-self
 overflow_add-self g c =
     let s = c.self.inside in
-    let weighs = (text_dropped s.pool s.names s.drafts s.levels (beside_of s.gathering s.registers s.traps s.words) s.charge s.stored _ _ _ _ c.self.invariant (changed_again s.pool s.names s.drafts s.levels (beside_of s.gathering s.registers s.traps s.words) s.charge s.stored c.args.from c.args.to c.remove.result c.put.result c.args.self.now c.self.invariant c.self.view_is c.remove.ensures.was c.in-Some.sense c.in-Some.is (c.put.ensures.was ∙ ap (λ (t : Table _). find c.args.to t.entries) c.remove.ensures.is) c.in-Some-put.old c.in-Some-put.is) c.in-Text.old c.in-Text.is).weighs in
+    let weighs = (text_dropped s.pool s.names s.drafts s.levels (beside_of s.gathering s.registers s.traps s.words) s.charge s.stored _ _ _ _ c.self.invariant (changed_again s.pool s.names s.drafts s.levels (beside_of s.gathering s.registers s.traps s.words) s.charge s.stored c.args.from c.args.to c.remove.result c.put.result c.args.self.now c.self.invariant c.self.view_is c.remove.ensures.was c.in-Some.sense c.in-Some.is (c.put.ensures.was ∙ ap (λ (t : SymbolTable _). find c.args.to t.entries) c.remove.ensures.is) c.in-Some-put.old c.in-Some-put.is) c.in-Text.old c.in-Text.is).weighs in
     let below = c.self.invariant.within in
     let small = c.self.invariant.small in
     let own = c.lone_share.ensures in
@@ -80,26 +80,26 @@ overflow_add-self g c =
 pub overflow_sub-self : goal.overflow_sub-self
 overflow_sub-self g c =
     let s = c.self.inside in
-    let weighs = (text_dropped s.pool s.names s.drafts s.levels (beside_of s.gathering s.registers s.traps s.words) s.charge s.stored _ _ _ _ c.self.invariant (changed_again s.pool s.names s.drafts s.levels (beside_of s.gathering s.registers s.traps s.words) s.charge s.stored c.args.from c.args.to c.remove.result c.put.result c.args.self.now c.self.invariant c.self.view_is c.remove.ensures.was c.in-Some.sense c.in-Some.is (c.put.ensures.was ∙ ap (λ (t : Table _). find c.args.to t.entries) c.remove.ensures.is) c.in-Some-put.old c.in-Some-put.is) c.in-Text.old c.in-Text.is).weighs in
+    let weighs = (text_dropped s.pool s.names s.drafts s.levels (beside_of s.gathering s.registers s.traps s.words) s.charge s.stored _ _ _ _ c.self.invariant (changed_again s.pool s.names s.drafts s.levels (beside_of s.gathering s.registers s.traps s.words) s.charge s.stored c.args.from c.args.to c.remove.result c.put.result c.args.self.now c.self.invariant c.self.view_is c.remove.ensures.was c.in-Some.sense c.in-Some.is (c.put.ensures.was ∙ ap (λ (t : SymbolTable _). find c.args.to t.entries) c.remove.ensures.is) c.in-Some-put.old c.in-Some-put.is) c.in-Text.old c.in-Text.is).weighs in
     let own = c.lone_share.ensures in
     omega arith
 
 pub release-requires : goal.release-requires
 release-requires g c =
     let s = c.self.inside in
-    (text_dropped s.pool s.names s.drafts s.levels (beside_of s.gathering s.registers s.traps s.words) s.charge s.stored _ _ _ _ c.self.invariant (changed_again s.pool s.names s.drafts s.levels (beside_of s.gathering s.registers s.traps s.words) s.charge s.stored c.args.from c.args.to c.remove.result c.put.result c.args.self.now c.self.invariant c.self.view_is c.remove.ensures.was c.in-Some.sense c.in-Some.is (c.put.ensures.was ∙ ap (λ (t : Table _). find c.args.to t.entries) c.remove.ensures.is) c.in-Some-put.old c.in-Some-put.is) c.in-Text.old c.in-Text.is).is_open
+    (text_dropped s.pool s.names s.drafts s.levels (beside_of s.gathering s.registers s.traps s.words) s.charge s.stored _ _ _ _ c.self.invariant (changed_again s.pool s.names s.drafts s.levels (beside_of s.gathering s.registers s.traps s.words) s.charge s.stored c.args.from c.args.to c.remove.result c.put.result c.args.self.now c.self.invariant c.self.view_is c.remove.ensures.was c.in-Some.sense c.in-Some.is (c.put.ensures.was ∙ ap (λ (t : SymbolTable _). find c.args.to t.entries) c.remove.ensures.is) c.in-Some-put.old c.in-Some-put.is) c.in-Text.old c.in-Text.is).is_open
 
 pub invariant_of-self-2 : goal.invariant_of-self-2
 invariant_of-self-2 g c =
     let s = c.self.inside in
-    rw (c.put.ensures.is, c.remove.ensures.is, c.release.ensures.released, c.lone_share.ensures) (text_dropped s.pool s.names s.drafts s.levels (beside_of s.gathering s.registers s.traps s.words) s.charge s.stored _ _ _ _ c.self.invariant (changed_again s.pool s.names s.drafts s.levels (beside_of s.gathering s.registers s.traps s.words) s.charge s.stored c.args.from c.args.to c.remove.result c.put.result c.args.self.now c.self.invariant c.self.view_is c.remove.ensures.was c.in-Some.sense c.in-Some.is (c.put.ensures.was ∙ ap (λ (t : Table _). find c.args.to t.entries) c.remove.ensures.is) c.in-Some-put.old c.in-Some-put.is) c.in-Text.old c.in-Text.is).stands
+    rw (c.put.ensures.is, c.remove.ensures.is, c.release.ensures.released, c.lone_share.ensures) (text_dropped s.pool s.names s.drafts s.levels (beside_of s.gathering s.registers s.traps s.words) s.charge s.stored _ _ _ _ c.self.invariant (changed_again s.pool s.names s.drafts s.levels (beside_of s.gathering s.registers s.traps s.words) s.charge s.stored c.args.from c.args.to c.remove.result c.put.result c.args.self.now c.self.invariant c.self.view_is c.remove.ensures.was c.in-Some.sense c.in-Some.is (c.put.ensures.was ∙ ap (λ (t : SymbolTable _). find c.args.to t.entries) c.remove.ensures.is) c.in-Some-put.old c.in-Some-put.is) c.in-Text.old c.in-Text.is).stands
 
 pub returns-clause-is : goal.returns-clause-is
 returns-clause-is g c =
     let s = c.self.inside in
-    rw (c.put.ensures.is, c.remove.ensures.is, c.release.ensures.released) (text_dropped s.pool s.names s.drafts s.levels (beside_of s.gathering s.registers s.traps s.words) s.charge s.stored _ _ _ _ c.self.invariant (changed_again s.pool s.names s.drafts s.levels (beside_of s.gathering s.registers s.traps s.words) s.charge s.stored c.args.from c.args.to c.remove.result c.put.result c.args.self.now c.self.invariant c.self.view_is c.remove.ensures.was c.in-Some.sense c.in-Some.is (c.put.ensures.was ∙ ap (λ (t : Table _). find c.args.to t.entries) c.remove.ensures.is) c.in-Some-put.old c.in-Some-put.is) c.in-Text.old c.in-Text.is).is
+    rw (c.put.ensures.is, c.remove.ensures.is, c.release.ensures.released) (text_dropped s.pool s.names s.drafts s.levels (beside_of s.gathering s.registers s.traps s.words) s.charge s.stored _ _ _ _ c.self.invariant (changed_again s.pool s.names s.drafts s.levels (beside_of s.gathering s.registers s.traps s.words) s.charge s.stored c.args.from c.args.to c.remove.result c.put.result c.args.self.now c.self.invariant c.self.view_is c.remove.ensures.was c.in-Some.sense c.in-Some.is (c.put.ensures.was ∙ ap (λ (t : SymbolTable _). find c.args.to t.entries) c.remove.ensures.is) c.in-Some-put.old c.in-Some-put.is) c.in-Text.old c.in-Text.is).is
 
 pub returns-clause-no_more : goal.returns-clause-no_more
 returns-clause-no_more g c =
     let s = c.self.inside in
-    rw (c.put.ensures.is, c.remove.ensures.is, c.release.ensures.released, ← c.self.view_is) (text_dropped s.pool s.names s.drafts s.levels (beside_of s.gathering s.registers s.traps s.words) s.charge s.stored _ _ _ _ c.self.invariant (changed_again s.pool s.names s.drafts s.levels (beside_of s.gathering s.registers s.traps s.words) s.charge s.stored c.args.from c.args.to c.remove.result c.put.result c.args.self.now c.self.invariant c.self.view_is c.remove.ensures.was c.in-Some.sense c.in-Some.is (c.put.ensures.was ∙ ap (λ (t : Table _). find c.args.to t.entries) c.remove.ensures.is) c.in-Some-put.old c.in-Some-put.is) c.in-Text.old c.in-Text.is).no_more
+    rw (c.put.ensures.is, c.remove.ensures.is, c.release.ensures.released, ← c.self.view_is) (text_dropped s.pool s.names s.drafts s.levels (beside_of s.gathering s.registers s.traps s.words) s.charge s.stored _ _ _ _ c.self.invariant (changed_again s.pool s.names s.drafts s.levels (beside_of s.gathering s.registers s.traps s.words) s.charge s.stored c.args.from c.args.to c.remove.result c.put.result c.args.self.now c.self.invariant c.self.view_is c.remove.ensures.was c.in-Some.sense c.in-Some.is (c.put.ensures.was ∙ ap (λ (t : SymbolTable _). find c.args.to t.entries) c.remove.ensures.is) c.in-Some-put.old c.in-Some-put.is) c.in-Text.old c.in-Text.is).no_more

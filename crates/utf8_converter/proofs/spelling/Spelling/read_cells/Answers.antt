@@ -1,5 +1,5 @@
 use Rattle.std.proofs.Common.{ℕ, ◌-◌, ◌<◌, ◌≤◌, ap, length, subst, sym, ◌∙◌, arith}
-use Rattle.utf8_characters.specs.declared.table.Table.{Table}
+use Rattle.utf8_characters.specs.declared.table.FixedTable.{FixedTable}
 use Rattle.utf8_converter.specs.declared.reader.Half.{Half}
 use Rattle.utf8_converter.specs.declared.reader.Reader.{Reader}
 use Rattle.utf8_converter.specs.Reading.{with_half}
@@ -10,14 +10,14 @@ use Rattle.utf8_converter.proofs.spelling.Spelling.read_cells.Goals as goal
 
 pub half_after-half-requires-clause-serves : goal.half_after-half-requires-clause-serves
 half_after-half-requires-clause-serves c =
-    let P : Table → Type 0 = λ t. Spells t 256 c.args.self.now.all c.args.self.now.whole in
+    let P : FixedTable → Type 0 = λ t. Spells t 256 c.args.self.now.all c.args.self.now.whole in
     let before = subst P (sym (ap (λ (q : Reader). q.table) c.release-begun.ensures.fills.reader ∙ released-table c.args.reader.now.half c.args.reader.now)) c.requires.serves in
     Goes-serves c.release-begun.new.reader c.put_all-reached.new.reader c.args.bytes.now c.put_all-reached.result.taken c.release-begun.new.room c.put_all-reached.new.room c.release-begun.result.end
     c.put_all-reached.result.end c.args.self.now before c.put_all-reached.ensures.goes
 
 pub count_half-requires : goal.count_half-requires
 count_half-requires c =
-    let P : Table → Type 0 = λ t. Spells t 256 c.args.self.now.all c.args.self.now.whole in
+    let P : FixedTable → Type 0 = λ t. Spells t 256 c.args.self.now.all c.args.self.now.whole in
     let before = subst P (sym (ap (λ (q : Reader). q.table) c.release-begun.ensures.fills.reader ∙ released-table c.args.reader.now.half c.args.reader.now)) c.requires.serves in
     record {
       serves = Goes-serves c.release-begun.new.reader c.put_all-reached.new.reader c.args.bytes.now c.put_all-reached.result.taken c.release-begun.new.room c.put_all-reached.new.room c.release-begun.result.end

@@ -11,7 +11,7 @@ returns-then-broken-clause-shown g c m came is =
     let held = g.W.Sink.held in
     let failed = g.W.Sink.failures in
     let own : Making = record { table = s.table.now; escapes = s.escapes; begun = held s.begun.value; failed = (failed s.begun.value).puts } in
-    ends-broken s.broken own m s.came.bytes came c.args.self.bytes (held s.output) (failed s.output).puts s.turner.reader s.turner.out.items
+    ends-broken s.broken own m s.came.bytes came c.args.self.bytes (held s.output) (failed s.output).puts s.pending.reader s.pending.out.items
     c.if-broken.true s.stands (ap (λ (t : ShownSoFar). t.bytes) c.self.view_is) is
 
 pub returns-then-broken-clause-broke : goal.returns-then-broken-clause-broke
@@ -20,7 +20,7 @@ returns-then-broken-clause-broke g c m came more is some =
     let held = g.W.Sink.held in
     let failed = g.W.Sink.failures in
     let own : Making = record { table = s.table.now; escapes = s.escapes; begun = held s.begun.value; failed = (failed s.begun.value).puts } in
-    ends-short s.broken own m s.came.bytes came more c.args.self.bytes (held s.output) (failed s.output).puts s.turner.reader s.turner.out.items
+    ends-short s.broken own m s.came.bytes came more c.args.self.bytes (held s.output) (failed s.output).puts s.pending.reader s.pending.out.items
     c.if-broken.true s.stands (ap (λ (t : ShownSoFar). t.bytes) c.self.view_is) is
 
 pub returns-clause-shown : goal.returns-clause-shown
@@ -31,7 +31,7 @@ returns-clause-shown g c m came is =
     let own : Making = record { table = s.table.now; escapes = s.escapes; begun = held s.begun.value; failed = (failed s.begun.value).puts } in
     let e = c.close-ended.ensures in
     ends s.broken own m s.came.bytes came c.args.self.bytes (held s.output) (held c.close-ended.new.output) (failed s.output) (failed c.close-ended.new.output)
-    s.turner.reader s.turner.out.items c.close-ended.result c.if-broken.false s.stands (ap (λ (t : ShownSoFar). t.bytes) c.self.view_is) is e.ok e.err e.failures
+    s.pending.reader s.pending.out.items c.close-ended.result c.if-broken.false s.stands (ap (λ (t : ShownSoFar). t.bytes) c.self.view_is) is e.ok e.err e.failures
 
 pub returns-clause-broke : goal.returns-clause-broke
 returns-clause-broke g c m came more is some =

@@ -16,12 +16,12 @@ invariant_of-self-inside g c =
     elim c.then-self.branch [
       | then-self-via-then-self w ↦ (
         subst P (sym (ap (λ t. t.1.0) w.self-inside-is)) (broken-more s.broken m s.came.bytes c.note.new.self.bytes c.args.bytes.now (held s.output) (held s.output) (failed s.output).puts
-            (failed s.output).puts s.turner.reader s.turner.out.items w.if-self.true s.stands c.note.ensures refl refl),
+            (failed s.output).puts s.pending.reader s.pending.out.items w.if-self.true s.stands c.note.ensures refl refl),
         (λ e. absurd (let never : true ≡ false = e in cc), tt),
       )
       | then-self-via-else-self+then-is_err w ↦ (
         subst P (sym (ap (λ t. t.1.0) w.self-inside-is)) (call-breaks s.broken m s.came.bytes c.note.new.self.bytes c.args.bytes.now (held s.output) (held w.take_all.new.output) (failed s.output)
-            (failed w.take_all.new.output) s.turner.reader w.take_all.new.self.reader s.turner.out.items w.take_all.new.self.out.items w.take_all.result
+            (failed w.take_all.new.output) s.pending.reader w.take_all.new.self.reader s.pending.out.items w.take_all.new.self.out.items w.take_all.result
             w.if-self.false s.stands c.note.ensures (sym w.is_err.ensures.value ∙ w.if-is_err.true) w.take_all.ensures.takes w.take_all.ensures.failures),
         (λ e. absurd (let never : true ≡ false = e in cc), tt),
       )
@@ -44,7 +44,7 @@ invariant_of-self-inside-then-not-is_empty g c =
     let failed = g.W.Sink.failures in
     let m : Making = record { table = s.table.now; escapes = s.escapes; begun = held s.begun.value; failed = (failed s.begun.value).puts } in (
       call-on s.broken m s.came.bytes c.note.new.self.bytes c.args.bytes.now (held s.output) (held c.take_all.new.output) (failed s.output) (failed c.take_all.new.output)
-          s.turner.reader c.take_all.new.self.reader s.turner.out.items c.take_all.new.self.out.items c.take_all.result
+          s.pending.reader c.take_all.new.self.reader s.pending.out.items c.take_all.new.self.out.items c.take_all.result
           c.if-self.false s.stands c.note.ensures (sym c.is_err.ensures.value ∙ c.if-is_err.false) c.take_all.ensures.takes c.take_all.ensures.failures,
       (s.counts, tt),
     )
@@ -56,7 +56,7 @@ invariant_of-self-inside-else-not-is_empty g c =
     let failed = g.W.Sink.failures in
     let m : Making = record { table = s.table.now; escapes = s.escapes; begun = held s.begun.value; failed = (failed s.begun.value).puts } in (
       call-on s.broken m s.came.bytes c.note.new.self.bytes c.args.bytes.now (held s.output) (held c.take_all.new.output) (failed s.output) (failed c.take_all.new.output)
-          s.turner.reader c.take_all.new.self.reader s.turner.out.items c.take_all.new.self.out.items c.take_all.result
+          s.pending.reader c.take_all.new.self.reader s.pending.out.items c.take_all.new.self.out.items c.take_all.result
           c.if-self.false s.stands c.note.ensures (sym c.is_err.ensures.value ∙ c.if-is_err.false) c.take_all.ensures.takes c.take_all.ensures.failures,
       (s.counts, tt),
     )

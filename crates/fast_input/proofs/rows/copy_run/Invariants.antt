@@ -1,6 +1,0 @@
-use Rattle.std.proofs.Common.{take}
-use Rattle.fast_input.specs.Rows.{AreBytes}
-use Rattle.fast_input.proofs.rows.copy_run.Given as goal
-
-abbrev pub invariant-loop-n : goal.invariant-loop-n
-invariant-loop-n g l = record { copied : AreBytes (take l.n l.chunk) (g.I.Items.next_items l.row) }

@@ -1,5 +1,0 @@
-use Rattle.tbl_stage.proofs.Parts.{says_nothing}
-use Rattle.tbl_stage.proofs.turner.TurnerTurning.is_full.Goals as goal
-
-pub returns : goal.returns
-returns c = λ e. says_nothing _ _ e
