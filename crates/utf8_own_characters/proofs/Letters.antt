@@ -43,21 +43,35 @@ second_quiet l bits b is e =
     ap (λ (d : Decoded). heard (record l { part = d.part }) d.character)
     (ap (λ (p : Part). decoded p b) is ∙ tail (record { bits = bits; left = 2 }) b low (omega (arith, high)))
 
+-- with the first two bytes of a letter nothing ends
+pub record NothingEnds (l : Listener) (a b : ℕ) : Type 0 where
+  pub one : Listener
+  pub two : Listener
+  pub first : read l a ≡ going one one.held
+  pub second : read one b ≡ going two two.held
+
+pub three_quiet : (l : Listener) (a b c : ℕ) → is_three a b c ≡ true → NothingEnds l a b
+unfolding quiet
+three_quiet l a b c three =
+    let both = and_first (is_within 0xE0 0xEF a && is_within 0x80 0xBF b) (is_within 0x80 0xBF c) three in
+    let u : Listener = record l { part = record { bits = a % 16; left = 2 } } in
+    record {
+      one = u;
+      two = record u { part = record { bits = with_six u.part b; left = 1 } };
+      first = first_quiet l a (and_first (is_within 0xE0 0xEF a) (is_within 0x80 0xBF b) both);
+      second = second_quiet u (a % 16) b refl (and_second (is_within 0xE0 0xEF a) (is_within 0x80 0xBF b) both);
+    }
+
 -- ---- so with a letter that ends which ends with its last byte
 
 three_done : (l : Listener) (a b c : ℕ) → is_three a b c ≡ true
     → done_in l (a ∷ b ∷ c ∷ []) ≡ list_of (read (read (read l a).listener b).listener c).done ++ []
-unfolding quiet
 three_done l a b c three =
-    let both = and_first (is_within 0xE0 0xEF a && is_within 0x80 0xBF b) (is_within 0x80 0xBF c) three in
-    let u : Listener = record l { part = record { bits = a % 16; left = 2 } } in
-    let one : read l a ≡ going u u.held = first_quiet l a (and_first (is_within 0xE0 0xEF a) (is_within 0x80 0xBF b) both) in
-    let v : Listener = record u { part = record { bits = with_six u.part b; left = 1 } } in
-    let two : read u b ≡ going v v.held = second_quiet u (a % 16) b refl (and_second (is_within 0xE0 0xEF a) (is_within 0x80 0xBF b) both) in
-    ap (λ (x : Listened). list_of x.done ++ done_in x.listener (b ∷ c ∷ [])) one
-    ∙ ap (λ (x : Listened). list_of x.done ++ (list_of (read x.listener c).done ++ [])) two
-    ∙ ap (λ (x : Listened). list_of (read x.listener c).done ++ []) (sym two)
-    ∙ ap (λ (x : Listened). list_of (read (read x.listener b).listener c).done ++ []) (sym one)
+    let q = three_quiet l a b c three in
+    ap (λ (x : Listened). list_of x.done ++ done_in x.listener (b ∷ c ∷ [])) q.first
+    ∙ ap (λ (x : Listened). list_of x.done ++ (list_of (read x.listener c).done ++ [])) q.second
+    ∙ ap (λ (x : Listened). list_of (read x.listener c).done ++ []) (sym q.second)
+    ∙ ap (λ (x : Listened). list_of (read (read x.listener b).listener c).done ++ []) (sym q.first)
 
 seen_one : (room : ℕ) (xs : List Count) (done : Option Cluster) → noted room xs done ≡ seen room xs (list_of done ++ [])
 seen_one room xs None = refl
@@ -94,7 +108,7 @@ byte_noted room xs l bs x some is =
 
 -- ---- more of a text was looked at: of what is left after n bytes, the first j of k
 
-after-append : (l : Listener) (xs ys : List ℕ) → after l (xs ++ ys) ≡ after (after l xs) ys
+pub after-append : (l : Listener) (xs ys : List ℕ) → after l (xs ++ ys) ≡ after (after l xs) ys
 after-append l [] ys = refl
 after-append l (x ∷ xs) ys = after-append (read l x).listener xs ys
 
@@ -108,7 +122,8 @@ seen-append : (room : ℕ) (counts : List Count) (cs ds : List Cluster) → seen
 seen-append room counts [] ds = refl
 seen-append room counts (c ∷ cs) ds = seen-append room (noted room counts (Some c)) cs ds
 
-parted : (bs : List ℕ) (n k j : ℕ) → j ≤ k → take j (take k (drop n bs)) ++ drop (n + j) bs ≡ drop n bs
+-- what was looked at, and what is left then
+pub parted : (bs : List ℕ) (n k j : ℕ) → j ≤ k → take j (take k (drop n bs)) ++ drop (n + j) bs ≡ drop n bs
 parted bs n k j few =
     ap (λ (zs : List ℕ). zs ++ drop (n + j) bs) (take-take j k (drop n bs) few)
     ∙ ap (λ (zs : List ℕ). take j (drop n bs) ++ zs) (sym (drop-drop j n bs))

@@ -3,12 +3,9 @@ use Rattle.std.proofs.Common.{◌≡◌, ℕ, List, [], ◌∷◌, ◌++◌, Boo
 use Rattle.utf8_own_characters.specs.declared.listening.Listener.{Listener}
 use Rattle.utf8_own_characters.specs.Listening.{after, read}
 use Rattle.utf8_own_characters.specs.Table.{Characters}
+use Rattle.utf8_own_characters.proofs.Letters.{after-append}
 use Rattle.utf8_own_stage.specs.declared.points.Place.{Place}
 use Rattle.utf8_own_stage.specs.Coding.{said, said_of, said_last, place_after, place_after_all, coding}
-
-pub after-append : (l : Listener) (xs ys : List ℕ) → after l (xs ++ ys) ≡ after (after l xs) ys
-after-append l [] ys = refl
-after-append l (x ∷ xs) ys = after-append (read l x).listener xs ys
 
 pub place-append : (l : Listener) (p : Place) (xs ys : List ℕ) → place_after_all l p (xs ++ ys) ≡ place_after_all (after l xs) (place_after_all l p xs) ys
 place-append l p [] ys = refl

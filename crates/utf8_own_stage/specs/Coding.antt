@@ -1,5 +1,5 @@
 -- The characters of a page become the bytes of its own table, and points go between them.
-use Rattle.std.specs.Prelude.{ℕ, ◌&&◌, get_or, List, [], ◌∷◌, ◌++◌, Bool, true, false, Option, None, Some, if◌then◌else◌}
+use Rattle.std.specs.Prelude.{ℕ, List, [], ◌∷◌, ◌++◌, Bool, true, false, Option, None, Some, if◌then◌else◌}
 use Rattle.preconv_converter.specs.Likeness.{likeness}
 use Rattle.preconv_converter.specs.declared.target.Target.TheVariants.{Ascii}
 use Rattle.utf8_own_characters.specs.declared.cluster.Cluster.{Cluster}
@@ -7,7 +7,7 @@ use Rattle.utf8_own_characters.specs.declared.table.Code.{Code}
 use Rattle.utf8_own_characters.specs.declared.table.Code.TheVariants.{One, Two}
 use Rattle.utf8_own_characters.specs.declared.listening.Listener.{Listener}
 use Rattle.utf8_own_characters.specs.declared.listening.Listened.{Listened}
-use Rattle.utf8_own_characters.specs.Listening.{after, is_within, read, first}
+use Rattle.utf8_own_characters.specs.Listening.{after, read, first}
 use Rattle.utf8_own_characters.specs.Table.{Characters, code}
 use Rattle.utf8_own_stage.specs.declared.points.Place.{Place}
 use Rattle.utf8_own_stage.specs.Points.{first_place, holds, left, passed, point, text_of}
@@ -68,12 +68,3 @@ coding t l p true bytes = said_of t l p bytes ++ said_last t (place_after_all l 
 
 abbrev pub coded_text : Characters → Bool → List ℕ → List ℕ
 coded_text t = coding t first first_place
-
--- ---- a letter of three bytes
-
--- the first begins a character of three, and the others go one on
-abbrev pub is_three : ℕ → ℕ → ℕ → Bool
-is_three a b c = is_within 0xE0 0xEF a && is_within 0x80 0xBF b && is_within 0x80 0xBF c
-
-abbrev pub begins_three : List ℕ → Bool
-begins_three bytes = is_three (get_or bytes 0 0) (get_or bytes 1 0) (get_or bytes 2 0)

@@ -1,6 +1,6 @@
 //! What stands for a cluster in a page's own table, and the points between clusters.
 ghost use Rattle.std.specs.Prelude.{◌≡◌, ◌+◌, ◌*◌, ◌<◌, ◌≤◌, ◌++◌, length, take, true};
-ghost use Rattle.utf8_own_characters.specs.Listening.{after, read};
+ghost use Rattle.utf8_own_characters.specs.Listening.{after, begins_three};
 ghost use Rattle.utf8_own_characters.specs.Table.{Good};
 ghost use Rattle.utf8_own_stage.specs.Coding as specs;
 ghost use Rattle.utf8_own_stage.specs.Points.{left, passed, point, text_of};
@@ -8,7 +8,7 @@ ghost use Rattle.utf8_own_stage.specs.Points.{left, passed, point, text_of};
 use super::points::{Place, Point};
 use nr_vectors::slice_vec::SliceVec;
 use preconv_converter::{Target, put_likeness};
-use utf8_own_characters::{Cluster, Code, Listened, Listener, OwnTable, is_mark};
+use utf8_own_characters::{Cluster, Code, Listened, Listener, OwnTable, begins_letter};
 
 /// The most bytes of what comes of one that is read.
 pub(crate) const MOST: usize = 32;
@@ -107,38 +107,6 @@ fn put_listened(
     put_byte(listened.byte, place, out);
 }
 
-/// Whether the first of these bytes begins a character of three, and the others go one on.
-#[inline(always)]
-fn is_three(a: u8, b: u8, c: u8) -> bool
-    ensures { result ≡ specs.is_three a b c }
-{
-    matches!(a, 0xE0..=0xEF) && matches!(b, 0x80..=0xBF) && matches!(c, 0x80..=0xBF)
-}
-
-/// Whether three such bytes are a letter: no mark, and no sign that shows nothing.
-#[inline(always)]
-fn are_letter(a: u8, b: u8, c: u8) -> bool {
-    let code = u32::from(a % 16) * 4_096 + u32::from(b % 64) * 64 + u32::from(c % 64);
-    if code < 0x2070 || code == 0xFEFF {
-        return false;
-    }
-    match char::from_u32(code) {
-        Some(character) => !is_mark(character),
-        None => false,
-    }
-}
-
-/// Whether these bytes begin with a letter of three, which can be put at once.
-#[inline(always)]
-fn begins_letter(bytes: &[u8]) -> bool
-    ensures long { result ≡ true → 3 ≤ length bytes.now }
-    ensures three { result ≡ true → specs.begins_three bytes.now ≡ true }
-{
-    bytes.len() >= 3
-        && is_three(bytes[0], bytes[1], bytes[2])
-        && are_letter(bytes[0], bytes[1], bytes[2])
-}
-
 /// Puts what comes of the first of these bytes.
 #[inline(always)]
 fn put_one(
@@ -183,14 +151,6 @@ fn put_other(
     put_one(bytes, listener, place, table, out);
 }
 
-/// What comes of the last of three bytes.
-#[inline(always)]
-fn read_three(listener: Listener, a: u8, b: u8, c: u8) -> Listened
-    ensures { result ≡ read (read (read listener a).listener b).listener c }
-{
-    listener.read(a).listener.read(b).listener.read(c)
-}
-
 /// Puts what comes of the letter of three bytes that these begin with: of the first two comes nothing.
 #[inline(always)]
 fn put_letter(
@@ -202,7 +162,7 @@ fn put_letter(
 )
     requires good { Good table.now }
     requires long { 3 ≤ length bytes.now }
-    requires three { specs.begins_three bytes.now ≡ true }
+    requires three { begins_three bytes.now ≡ true }
     requires room { length out.old.items + 32 ≤ out.old.capacity }
     ensures items { out.new.items ≡ out.old.items ++ specs.said_of table.now listener.old place.old (take 3 bytes.now) }
     ensures few { length out.new.items ≤ length out.old.items + 32 }
@@ -210,7 +170,7 @@ fn put_letter(
     ensures place { place.new ≡ specs.place_after_all listener.old place.old (take 3 bytes.now) }
     ensures room { out.new.capacity ≡ out.old.capacity }
 {
-    let listened = read_three(*listener, bytes[0], bytes[1], bytes[2]);
+    let listened = listener.read_three(bytes[0], bytes[1], bytes[2]);
     put_listened(listened, place, table, out);
     *listener = listened.listener;
 }

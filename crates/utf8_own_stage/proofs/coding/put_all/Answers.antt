@@ -1,8 +1,9 @@
 use Rattle.std.proofs.Common.{ℕ, List, [], ◌+◌, ◌-◌, ◌≤◌, ◌++◌, ◌∙◌, length, drop, refl, sym, ap, append-nil, arith}
 use Rattle.std.proofs.lemmas.List.{drop_all, length-drop, length-take}
 use Rattle.utf8_own_characters.specs.Listening.{after}
+use Rattle.utf8_own_characters.proofs.Letters.{more_after}
 use Rattle.utf8_own_stage.specs.Coding.{said_of, place_after_all}
-use Rattle.utf8_own_stage.proofs.Letters.{more_after, more_placed, more_said}
+use Rattle.utf8_own_stage.proofs.Letters.{more_placed, more_said}
 use Rattle.utf8_own_stage.proofs.coding.put_all.Goals as goal
 
 pub loop-count-preserved : goal.loop-count-preserved

@@ -1,8 +1,9 @@
 use Rattle.std.proofs.Common.{ℕ, List, ◌++◌, ◌∙◌, sym, ap}
 use Rattle.utf8_own_characters.specs.declared.listening.Listened.{Listened}
 use Rattle.utf8_own_characters.specs.Listening.{after}
+use Rattle.utf8_own_characters.proofs.Letters.{prefix_three}
 use Rattle.utf8_own_stage.specs.Coding.{said, said_of, place_after, place_after_all}
-use Rattle.utf8_own_stage.proofs.Letters.{letter_comes, prefix_three}
+use Rattle.utf8_own_stage.proofs.Letters.{letter_comes}
 use Rattle.utf8_own_stage.proofs.coding.put_letter.Goals as goal
 
 pub returns-clause-items : goal.returns-clause-items

@@ -1,8 +1,8 @@
 use Rattle.std.proofs.Common.{ℕ, List, [], ◌++◌, ◌∙◌, sym, ap, append-nil}
 use Rattle.utf8_own_characters.specs.declared.listening.Listened.{Listened}
 use Rattle.utf8_own_characters.specs.Listening.{after}
+use Rattle.utf8_own_characters.proofs.Letters.{prefix_one}
 use Rattle.utf8_own_stage.specs.Coding.{said, said_of, place_after, place_after_all}
-use Rattle.utf8_own_stage.proofs.Letters.{prefix_one}
 use Rattle.utf8_own_stage.proofs.coding.put_one.Goals as goal
 
 pub returns-clause-items : goal.returns-clause-items
