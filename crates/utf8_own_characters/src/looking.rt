@@ -81,6 +81,24 @@ fn look_at_one(
     note(counts, slots, listened.done)
 }
 
+/// The same of a byte that is neither of ASCII nor the first of a letter.
+#[inline(never)]
+fn look_at_other(
+    bytes: &[u8],
+    listener: &mut Listener,
+    counts: &mut SliceVec<'_, Count>,
+    slots: &mut [u16],
+) -> bool
+    requires some { 0 < length bytes.now }
+    requires once { is_once counts.old.items ≡ true }
+    ensures items { counts.new.items ≡ specs.seen counts.old.capacity counts.old.items (done_in listener.old (take 1 bytes.now)) }
+    ensures listener { listener.new ≡ after listener.old (take 1 bytes.now) }
+    ensures once { is_once counts.new.items ≡ true }
+    ensures room { counts.new.capacity ≡ counts.old.capacity }
+{
+    look_at_one(bytes, listener, counts, slots)
+}
+
 /// Looks at the letter of three bytes that these begin with: with the first two nothing ends.
 #[inline(always)]
 fn look_at_letter(
@@ -119,11 +137,15 @@ fn look_at_first(
     ensures some { 0 < result.count }
     ensures within { result.count ≤ length bytes.now }
 {
+    if bytes[0] < 128 {
+        let fits = look_at_one(bytes, listener, counts, slots);
+        return Looked { count: 1, fits };
+    }
     if begins_letter(bytes) {
         let fits = look_at_letter(bytes, listener, counts, slots);
         return Looked { count: 3, fits };
     }
-    let fits = look_at_one(bytes, listener, counts, slots);
+    let fits = look_at_other(bytes, listener, counts, slots);
     Looked { count: 1, fits }
 }
 
