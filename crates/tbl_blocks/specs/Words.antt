@@ -159,16 +159,21 @@ obeyed requests.Item text place s = item_read text place s
 obeyed requests.Unknown text place s = unknown_read text place s
 obeyed request text place s = with_reading (reading_obeyed request (first_argument text) s.reading) s
 
--- a name after blanks, and its arguments
-abbrev pub request_word : List ℕ → List ℕ
-request_word text = take (request_len text) text
+-- a name after blanks and tabs, and its arguments
+abbrev pub after_blanks : List ℕ → List ℕ
+after_blanks text = drop (blanks_len text) text
+
+abbrev pub name_of : List ℕ → List ℕ
+name_of request = take (request_len request) request
+
+abbrev pub arguments_of : List ℕ → List ℕ
+arguments_of request = drop (request_len request) request
 
 abbrev pub named_read : List ℕ → ℕ → Blocks → Blocks
-named_read text place s =
-    obeyed (request_of (request_word text)) (drop (request_len text) text) (place + request_len text) s
+named_read text place s = obeyed (request_of (name_of text)) (arguments_of text) (place + request_len text) s
 
 abbrev pub request_read : List ℕ → ℕ → Blocks → Blocks
-request_read line place s = named_read (drop (blanks_len line) line) (place + blanks_len line) s
+request_read line place s = named_read (after_blanks line) (place + blanks_len line) s
 
 -- ---- lines
 
@@ -176,9 +181,12 @@ abbrev pub is_request : List ℕ → Bool
 is_request [] = false
 is_request (b ∷ bs) = (b == code ".") || (b == code "'")
 
--- the name of the request of a line
+-- the request of a line, after its control character, and its name
+abbrev pub request_in : List ℕ → List ℕ
+request_in line = after_blanks (drop 1 line)
+
 abbrev pub request_name : List ℕ → List ℕ
-request_name line = request_word (drop (blanks_len (drop 1 line)) (drop 1 line))
+request_name line = name_of (request_in line)
 
 -- A line is that of a request that isn't set here.
 abbrev pub is_unset : List ℕ → Bool

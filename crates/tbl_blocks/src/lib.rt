@@ -26,4 +26,6 @@ pub use laws::{
     words_are_read,
 };
 pub use parts::{Extent, Font, Join, Known, Line, Part, Seen};
-pub use words::{is_unset, request_name};
+pub use words::{
+    after_blanks, arguments_of, is_request, is_unset, name_of, request_in, request_name,
+};

@@ -22,7 +22,7 @@ fn goes_on(line: &[u8]) -> bool
 }
 
 /// Whether a line is a request's.
-fn is_request(line: &[u8]) -> bool
+pub fn is_request(line: &[u8]) -> bool
     ensures { result ≡ specs.is_request line.now }
 {
     match line.split_first() {
@@ -31,21 +31,42 @@ fn is_request(line: &[u8]) -> bool
     }
 }
 
-/// The name that a text begins with.
-fn request_word(text: &[u8]) -> &[u8]
-    ensures { result.now ≡ specs.request_word text.now }
+/// What stands after blanks and tabs.
+pub fn after_blanks(text: &[u8]) -> &[u8]
+    ensures { result.now ≡ specs.after_blanks text.now }
 {
-    &text[..request_len(text)]
+    &text[blanks_len(text)..]
+}
+
+/// The request of a line, after its control character: its name, and its arguments.
+pub fn request_in(line: &[u8]) -> &[u8]
+    ensures { result.now ≡ specs.request_in line.now }
+{
+    match line.split_first() {
+        None => line,
+        Some((_first, rest)) => after_blanks(rest),
+    }
+}
+
+/// Its name.
+pub fn name_of(request: &[u8]) -> &[u8]
+    ensures { result.now ≡ specs.name_of request.now }
+{
+    &request[..request_len(request)]
+}
+
+/// Its arguments.
+pub fn arguments_of(request: &[u8]) -> &[u8]
+    ensures { result.now ≡ specs.arguments_of request.now }
+{
+    &request[request_len(request)..]
 }
 
 /// The name of the request of a line.
 pub fn request_name(line: &[u8]) -> &[u8]
     ensures { result.now ≡ specs.request_name line.now }
 {
-    match line.split_first() {
-        None => line,
-        Some((_first, rest)) => request_word(&rest[blanks_len(rest)..]),
-    }
+    name_of(request_in(line))
 }
 
 /// Whether a line is that of a request that isn't set here.

@@ -16,6 +16,7 @@ use Rattle.tbl_table.specs.declared.table.Key.{Key}
 use Rattle.tbl_table.specs.declared.table.Kind.{Kind}
 use Rattle.tbl_table.specs.declared.table.Kind.TheVariants as kinds
 use Rattle.tbl_table.specs.declared.table.Span.{Span}
+use Rattle.tbl_table.specs.Held as tables
 use Rattle.tbl_table.specs.Held.{has_text, is_text, key, line, none_of, text_of}
 use Rattle.tbl_table.specs.Lists.{added, in_turn, put}
 use Rattle.tbl_table.specs.Sums.{sum}
@@ -93,10 +94,6 @@ columns_read g = in_turn (width g.table) read_column (record g { columns = none_
 abbrev pub spans : Cell → Bool
 spans f = nat_lt f.first f.last
 
-abbrev pub is_number_kind : Kind → Bool
-is_number_kind kinds.Number = true
-is_number_kind kind = false
-
 abbrev pub is_alpha_kind : Kind → Bool
 is_alpha_kind kinds.Alpha = true
 is_alpha_kind kind = false
@@ -107,7 +104,7 @@ is_given (Some x) = true
 
 -- it is aligned with others
 abbrev pub is_number : Cell → Bool
-is_number f = is_number_kind f.key.kind && is_text f.field.form && is_given f.field.prefix
+is_number f = tables.is_number f.key.kind && is_text f.field.form && is_given f.field.prefix
 
 abbrev pub is_alpha : Cell → Bool
 is_alpha f = is_alpha_kind f.key.kind

@@ -34,7 +34,7 @@ impl Cell {
     pub fn is_number(&self) -> bool
         ensures { result ≡ specs.is_number self.now }
     {
-        matches!(self.key.kind, Kind::Number)
+        self.key.kind.is_number()
             && matches!(self.field.form, Form::Text)
             && self.field.prefix.is_some()
     }

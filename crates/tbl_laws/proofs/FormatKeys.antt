@@ -6,7 +6,9 @@ use Rattle.tbl_table.specs.declared.table.Key.{Key}
 use Rattle.tbl_table.specs.declared.table.Open.TheVariants as opens
 use Rattle.tbl_table.specs.declared.table.Table.{Table}
 use Rattle.tbl_table.specs.Formats.{key_added, line_begun, one_counted, with_one}
-use Rattle.tbl_table.specs.Held.{kind_of, usual}
+use Rattle.tbl_table.specs.declared.table.Kind.{Kind}
+use Rattle.tbl_table.specs.declared.table.Kind.TheVariants as kinds
+use Rattle.tbl_table.specs.Held.{usual}
 use Rattle.tbl_reader.specs.declared.formats.Call.TheVariants as calls
 use Rattle.tbl_reader.specs.declared.formats.Called.{Called}
 use Rattle.tbl_reader.specs.declared.formats.Formats.{Formats}
@@ -30,6 +32,10 @@ lined first count ks t = record t {
   «open» = opens.Nothing;
 }
 
+-- what one of them says
+abbrev kind_of : ℕ → Kind
+kind_of b = if b == code "r" then kinds.Right else if b == code "c" then kinds.Centre else kinds.Left
+
 abbrev letter : ℕ → Key
 letter b = record usual { kind = kind_of b }
 
@@ -51,7 +57,7 @@ begins_line ks t none room =
     ∙ ap (λ (n : ℕ). lined n 0 ks t) none
 
 abbrev column_called : Bool → ℕ → Called
-column_called begins b = record { ends = false; begins = begins; call = calls.Cell b 0 }
+column_called begins b = record { ends = false; begins = begins; call = calls.Cell (kind_of b) 0 }
 
 abbrev is_none : ℕ → Bool
 is_none zero = true

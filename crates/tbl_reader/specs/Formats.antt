@@ -9,6 +9,9 @@ use Rattle.tbl_reader.specs.declared.formats.Call.TheVariants.{Nothing, Cell, Ba
 use Rattle.tbl_reader.specs.declared.formats.Called.{Called}
 use Rattle.tbl_reader.specs.Numbers.{is_digit, one_more}
 use Rattle.tbl_reader.specs.Options.{small}
+use Rattle.tbl_table.specs.declared.table.Kind.{Kind}
+use Rattle.tbl_table.specs.declared.table.Kind.TheVariants as kinds
+use Rattle.tbl_table.specs.Held.{is_number}
 
 -- ---- what is called
 
@@ -38,12 +41,18 @@ first_formats columns lines numeric = record {
 
 -- ---- columns and lines
 
--- the key letter of a column: - is _
-abbrev pub kind_of : ℕ → Option ℕ
+-- by the key letter of a column: - is _
+abbrev pub kind_of : ℕ → Option Kind
 kind_of b =
-    if (b == code "l") || (b == code "r") || (b == code "c") || (b == code "n") || (b == code "a")
-    || (b == code "s") || (b == code "^") || (b == code "_") || (b == code "=") then Some b else
-    if b == code "-" then Some (code "_") else None
+    if b == code "l" then Some kinds.Left else
+    if b == code "r" then Some kinds.Right else
+    if b == code "c" then Some kinds.Centre else
+    if b == code "n" then Some kinds.Number else
+    if b == code "a" then Some kinds.Alpha else
+    if b == code "s" then Some kinds.Across else
+    if b == code "^" then Some kinds.Down else
+    if (b == code "_") || (b == code "-") then Some kinds.Rule else
+    if b == code "=" then Some kinds.DoubleRule else None
 
 -- a line begins
 abbrev pub line_begun : Formats → Formats
@@ -57,33 +66,38 @@ blamed_in None b f = record f { bad = Some b }
 abbrev pub blaming : ℕ → Formats → Formats
 blaming b f = blamed_in f.bad b f
 
--- nothing stands before the next column, or above it, that could go on over it
-abbrev pub is_bad : ℕ → Formats → Bool
-is_bad kind f = if kind == code "s" then f.cells == 0 else if kind == code "^" then f.lines == 1 else false
+-- the letter of a column where nothing stands before it, or above it, that could go on over it
+abbrev pub bad_letter : Kind → Formats → Option ℕ
+bad_letter kinds.Across f = if f.cells == 0 then Some (code "s") else None
+bad_letter kinds.Down f = if f.lines == 1 then Some (code "^") else None
+bad_letter kind f = None
 
 -- one column more, of at most 64
-abbrev pub with_cell : ℕ → Formats → Formats
+abbrev pub with_cell : Kind → Formats → Formats
 with_cell kind f =
     let cells = one_more f.cells 64 in
     record f {
       many = f.many || nat_le 64 f.cells;
       cells = cells;
       columns = if nat_lt f.columns cells then cells else f.columns;
-      numeric = f.numeric || (kind == code "n");
+      numeric = f.numeric || is_number kind;
       begun = true;
       bars = 0;
     }
 
-abbrev pub cell_added : ℕ → Bool → Formats → Returned
+abbrev pub cell_added : Kind → Bool → Formats → Returned
 cell_added kind begins f =
     returned (with_cell kind f) (record { ends = false; begins = begins; call = Cell kind f.bars })
 
 -- one of l where it can't be of its kind
-abbrev pub kind_added : ℕ → Bool → Formats → Returned
-kind_added kind begins f = if is_bad kind f then cell_added (code "l") begins (blaming kind f)
-    else cell_added kind begins f
+abbrev pub kind_added_in : Option ℕ → Kind → Bool → Formats → Returned
+kind_added_in (Some letter) kind begins f = cell_added kinds.Left begins (blaming letter f)
+kind_added_in None kind begins f = cell_added kind begins f
 
-abbrev pub cell : ℕ → Formats → Returned
+abbrev pub kind_added : Kind → Bool → Formats → Returned
+kind_added kind begins f = kind_added_in (bad_letter kind f) kind begins f
+
+abbrev pub cell : Kind → Formats → Returned
 cell kind f = if f.begun then kind_added kind false f else kind_added kind true (line_begun f)
 
 abbrev pub line_ends : Formats → Returned
@@ -118,7 +132,7 @@ modifier b f =
     if (b == code "p") || (b == code "v") || (b == code "m") then going_on (parts.Size b) Nothing f else
     if is_digit b then going_on parts.Digits (Gap b) f else bad_byte b f
 
-abbrev pub column : ℕ → Option ℕ → Formats → Returned
+abbrev pub column : ℕ → Option Kind → Formats → Returned
 column b (Some kind) f = cell kind f
 column b None f = if f.begun then modifier b f else bad_byte b f
 

@@ -8,8 +8,8 @@ use Rattle.tbl_reader.specs.declared.measure.Cells.{Cells}
 use Rattle.tbl_reader.specs.declared.measure.Measure.{Measure}
 use Rattle.tbl_reader.specs.declared.measure.Sure.{Sure}
 use Rattle.tbl_reader.specs.declared.measure.Sure.TheVariants as sures
-use Rattle.tbl_reader.specs.declared.options.Frame.{Frame}
-use Rattle.tbl_reader.specs.declared.options.Frame.TheVariants.{Open}
+use Rattle.tbl_table.specs.declared.table.Frame.{Frame}
+use Rattle.tbl_table.specs.declared.table.Frame.TheVariants.{Open}
 use Rattle.tbl_reader.specs.declared.widths.Line.{Line}
 use Rattle.tbl_reader.specs.declared.widths.Widths.{Widths}
 

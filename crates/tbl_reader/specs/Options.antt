@@ -9,8 +9,8 @@ use Rattle.tbl_reader.specs.declared.options.Options.{Options}
 use Rattle.tbl_reader.specs.declared.options.OptionsRead.{OptionsRead}
 use Rattle.tbl_reader.specs.declared.options.Choice.{Choice}
 use Rattle.tbl_reader.specs.declared.options.Choice.TheVariants as choices
-use Rattle.tbl_reader.specs.declared.options.Frame.{Frame}
-use Rattle.tbl_reader.specs.declared.options.Frame.TheVariants.{Open, Single, All, Double}
+use Rattle.tbl_table.specs.declared.table.Frame.{Frame}
+use Rattle.tbl_table.specs.declared.table.Frame.TheVariants.{Open, Single, All, Double}
 
 abbrev pub is_word : List ℕ → List ℕ → Bool
 is_word word text = pointwise nat_eq word text

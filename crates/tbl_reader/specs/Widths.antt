@@ -11,6 +11,8 @@ use Rattle.tbl_reader.specs.declared.widths.Line.{Line}
 use Rattle.tbl_reader.specs.declared.widths.Widths.{Widths}
 use Rattle.tbl_reader.specs.Formats.{read}
 use Rattle.tbl_reader.specs.Numbers.{is_digit}
+use Rattle.tbl_table.specs.declared.table.Kind.{Kind}
+use Rattle.tbl_table.specs.declared.table.Kind.TheVariants as kinds
 
 -- ---- a width
 
@@ -65,14 +67,18 @@ abbrev pub byte_called : ℕ → Widths → Widths
 byte_called b w = if b == code "\n" then ended w else record w { number = number_with b w.number }
 
 -- s ^ _ =: such a column may have less room than its field's text, or none
-abbrev pub is_hiding : ℕ → Bool
-is_hiding kind = (kind == code "s") || (kind == code "^") || (kind == code "_") || (kind == code "=")
+abbrev pub is_hiding : Kind → Bool
+is_hiding kinds.Across = true
+is_hiding kinds.Down = true
+is_hiding kinds.Rule = true
+is_hiding kinds.DoubleRule = true
+is_hiding kind = false
 
 -- a column begins, the first of its line or another
 abbrev pub column_begun : Bool → Widths → Widths
 column_begun begins w = record w { width = 0; line = if begins then no_line else with_gap w.width w.line }
 
-abbrev pub cell_called : ℕ → Bool → Widths → Widths
+abbrev pub cell_called : Kind → Bool → Widths → Widths
 cell_called kind begins w = record (column_begun begins w) { hides = w.hides || is_hiding kind }
 
 -- a line ends: the last with a width counts, since a column has the last that is given for it

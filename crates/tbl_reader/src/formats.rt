@@ -4,6 +4,7 @@ ghost use Rattle.tbl_reader.specs.Formats as specs;
 
 use super::numbers::one_more;
 use super::options::small;
+use tbl_table::Kind;
 
 /// The greatest number of columns.
 const COLUMNS: usize = 64;
@@ -65,7 +66,7 @@ pub enum Call {
     /// None.
     Nothing,
     /// A column, with the bars before it.
-    Cell(u8, usize),
+    Cell(Kind, usize),
     /// The end of a line, with the bars at it.
     Bars(usize),
     /// The font of a column.
@@ -110,13 +111,20 @@ fn font_of(letter: u8) -> u8
     }
 }
 
-/// The kind of a column, `_` for each rule of one line.
-fn kind_of(key: u8) -> Option<u8>
+/// The kind of a column.
+fn kind_of(key: u8) -> Option<Kind>
     ensures { result ≡ specs.kind_of key }
 {
     match key {
-        b'l' | b'r' | b'c' | b'n' | b'a' | b's' | b'^' | b'_' | b'=' => Some(key),
-        b'-' => Some(b'_'),
+        b'l' => Some(Kind::Left),
+        b'r' => Some(Kind::Right),
+        b'c' => Some(Kind::Centre),
+        b'n' => Some(Kind::Number),
+        b'a' => Some(Kind::Alpha),
+        b's' => Some(Kind::Across),
+        b'^' => Some(Kind::Down),
+        b'_' | b'-' => Some(Kind::Rule),
+        b'=' => Some(Kind::DoubleRule),
         _ => None,
     }
 }
@@ -152,14 +160,14 @@ impl Formats {
         }
     }
 
-    /// Whether nothing stands before the next column, or above it, that could go on over it.
-    fn is_bad(&self, kind: u8) -> bool
-        ensures { result ≡ specs.is_bad kind self.now }
+    /// The letter of a column where nothing stands before it, or above it, that could go on over it.
+    fn bad_letter(&self, kind: Kind) -> Option<u8>
+        ensures { result ≡ specs.bad_letter kind self.now }
     {
         match kind {
-            b's' => self.cells == 0,
-            b'^' => self.lines == 1,
-            _ => false,
+            Kind::Across if self.cells == 0 => Some(b's'),
+            Kind::Down if self.lines == 1 => Some(b'^'),
+            _ => None,
         }
     }
 
@@ -182,7 +190,7 @@ impl Formats {
     }
 
     /// A column is added, before which a line begins or not.
-    fn add_cell(&mut self, kind: u8, begins: bool) -> Called
+    fn add_cell(&mut self, kind: Kind, begins: bool) -> Called
         ensures { specs.returned self.new result ≡ specs.cell_added kind begins self.old }
     {
         let bars = self.bars;
@@ -191,7 +199,7 @@ impl Formats {
         if self.columns < self.cells {
             self.columns = self.cells;
         }
-        self.numeric = self.numeric || kind == b'n';
+        self.numeric = self.numeric || kind.is_number();
         self.begun = true;
         self.bars = 0;
         Called {
@@ -202,18 +210,20 @@ impl Formats {
     }
 
     /// A column of this kind is added, or where it can't be of it one of `l`.
-    fn add_kind(&mut self, kind: u8, begins: bool) -> Called
+    fn add_kind(&mut self, kind: Kind, begins: bool) -> Called
         ensures { specs.returned self.new result ≡ specs.kind_added kind begins self.old }
     {
-        if self.is_bad(kind) {
-            self.blames(kind);
-            return self.add_cell(b'l', begins);
+        match self.bad_letter(kind) {
+            Some(letter) => {
+                self.blames(letter);
+                self.add_cell(Kind::Left, begins)
+            }
+            None => self.add_cell(kind, begins),
         }
-        self.add_cell(kind, begins)
     }
 
     /// A column comes.
-    fn cell(&mut self, kind: u8) -> Called
+    fn cell(&mut self, kind: Kind) -> Called
         ensures { specs.returned self.new result ≡ specs.cell kind self.old }
     {
         if self.begun {

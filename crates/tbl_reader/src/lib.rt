@@ -1,6 +1,6 @@
 //! tbl: the tables of a page are read, and what they say is emitted to who sets them.
 //!
-//! It stands on nr_units, nr_vectors and tbl_blocks. To read: `complaint`, `passing`, `command`; `options`, `numbers`, `formats`,
+//! It stands on nr_units, nr_vectors, tbl_blocks and tbl_table. To read: `complaint`, `passing`, `command`; `options`, `numbers`, `formats`,
 //! `widths`, `measure`, `field`; `telling`, `state`, `reader`, `head`, `rows`, `blocks`, `ending`, `quiet`;
 //! `running`; `untouched`.
 #![tactic(auto)]
@@ -28,7 +28,7 @@ mod widths;
 pub use complaint::{Complaint, Kind};
 pub use field::Mark;
 pub use formats::{Call, Called};
-pub use options::{Frame, Options};
+pub use options::Options;
 pub use reader::{Limits, Reader};
 pub use running::{ReadEnd, read_page};
 pub use telling::{Setter, Tell};

@@ -3,8 +3,8 @@
 ghost use Rattle.std.specs.Prelude.{◌≡◌, ◌+◌, ◌^◌, ◌<◌, ◌≤◌, drop, length};
 ghost use Rattle.tbl_reader.specs.Measure as specs;
 
-use super::options::Frame;
 use super::widths::{GAP, Line, Widths};
+use tbl_table::Frame;
 
 /// Where the text of a field is read.
 #[derive(Clone, Copy)]

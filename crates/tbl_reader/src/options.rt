@@ -4,19 +4,7 @@ ghost use Rattle.tbl_reader.specs.Options as specs;
 
 use super::complaint::Kind;
 use nr_units::Name;
-
-/// The frame of a table.
-#[derive(Clone, Copy)]
-pub enum Frame {
-    /// None.
-    Open,
-    /// A box around it.
-    Single,
-    /// A box around each entry.
-    All,
-    /// A box of two lines.
-    Double,
-}
+use tbl_table::Frame;
 
 /// What the options say.
 #[derive(Clone, Copy)]

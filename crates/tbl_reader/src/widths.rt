@@ -4,6 +4,7 @@ ghost use Rattle.tbl_reader.specs.Widths as specs;
 
 use super::formats::{Call, Called, Formats};
 use super::numbers::is_digit;
+use tbl_table::Kind;
 
 /// The space after a column where no number gives another.
 pub(crate) const GAP: usize = 3;
@@ -61,10 +62,13 @@ fn with_digit(value: usize, digit: u8) -> Number
 }
 
 /// A kind of column that may have less room than its field's text, or none.
-fn is_hiding(kind: u8) -> bool
+fn is_hiding(kind: Kind) -> bool
     ensures { result ≡ specs.is_hiding kind }
 {
-    matches!(kind, b's' | b'^' | b'_' | b'=')
+    matches!(
+        kind,
+        Kind::Across | Kind::Down | Kind::Rule | Kind::DoubleRule
+    )
 }
 
 impl Number {
@@ -180,7 +184,7 @@ impl Widths {
     }
 
     /// A column of this kind begins, the first of its line or another.
-    fn cell_called(self, kind: u8, begins: bool) -> Widths
+    fn cell_called(self, kind: Kind, begins: bool) -> Widths
         ensures { result ≡ specs.cell_called kind begins self }
     {
         let line = if begins {

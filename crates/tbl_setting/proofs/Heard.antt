@@ -12,7 +12,8 @@ use Rattle.tbl_setting.specs.declared.requests.Request.TheVariants as requests
 use Rattle.tbl_setting.specs.declared.setting.Setting.{Setting}
 use Rattle.tbl_setting.specs.declared.watching.Around.{Around}
 use Rattle.tbl_setting.specs.declared.watching.Watch.{Watch}
-use Rattle.tbl_setting.specs.Arguments.{accepted, definition_at, request_in, word}
+use Rattle.tbl_setting.specs.Arguments.{accepted, argument, definition_at}
+use Rattle.tbl_blocks.specs.Words.{name_of, request_in}
 use Rattle.tbl_setting.specs.Held.{emptied, page_heard, with_layout, with_watching}
 use Rattle.tbl_setting.specs.Lengths.{length_in}
 use Rattle.tbl_setting.specs.Margins.{or_number}
@@ -47,7 +48,7 @@ request_same cells requests.Adjust text h = refl
 request_same cells requests.Length text h = refl
 request_same cells requests.Copy text h = refl
 request_same cells requests.Register text h =
-    either (nothing_known cells) (list_eq (word text 1) (codes "LL")) (record h.around { cells = or_number (length_in (word text 2) Unit) h.around.cells }) h.around (nothing_known cells h.around) refl refl
+    either (nothing_known cells) (list_eq (argument text 0) (codes "LL")) (record h.around { cells = or_number (length_in (argument text 1) Unit) h.around.cells }) h.around (nothing_known cells h.around) refl refl
 request_same cells requests.Other text h = refl
 
 control_same : (cells : ℕ) (line : List ℕ) (h : Hearing) → known cells (control_heard line h) ≡ known cells h
@@ -56,7 +57,7 @@ control_same cells line h = by_place (definition_at line)
   where
     by_place : (place : Option ℕ) → known cells (definition_heard place line h) ≡ known cells h
     by_place (Some place) = refl
-    by_place None = request_same cells (request_of (word (accepted (request_in line)) 0)) (accepted (request_in line)) h
+    by_place None = request_same cells (request_of (name_of (accepted (request_in line)))) (accepted (request_in line)) h
 
 line_same : (cells : ℕ) (line : List ℕ) (h : Hearing) → known cells (line_heard line h) ≡ known cells h
 unfolding known

@@ -10,7 +10,8 @@ use Rattle.nr_units.specs.declared.units.Scale.TheVariants.{Unit as Units}
 use Rattle.tbl_setting.specs.declared.requests.Request.{Request}
 use Rattle.tbl_setting.specs.declared.requests.Request.TheVariants as requests
 use Rattle.tbl_setting.specs.declared.setting.Setting.{Setting}
-use Rattle.tbl_setting.specs.Arguments.{accepted, after_blanks, after_words, argument_len, definition_at, first_word, request_in, word}
+use Rattle.tbl_setting.specs.Arguments.{accepted, after_arguments, after_blanks, argument, argument_len, definition_at, first_argument}
+use Rattle.tbl_blocks.specs.Words.{name_of, request_in}
 use Rattle.tbl_setting.specs.Requests.{request_of}
 use Rattle.tbl_setting.specs.Watching.{Hearing, Watching, begins_control, byte_heard, control_heard, definition_heard, ends_copy, heard, hearing, is_text, known_of, line_ended, line_heard, obeyed_by, register_heard, room_of, string_heard, string_number, string_of, string_set, watching}
 use Rattle.tbl_setting.specs.Setting.{set}
@@ -43,7 +44,7 @@ string_known None k sure g = knows_if sure g (record g { blocks = record g.block
 
 strings_known : (text : List ℕ) (g : Grid) → Knows g (string_heard text g)
 strings_known text g =
-    let name = first_word text in
+    let name = first_argument text in
     let said = string_of text (argument_len text) in
     let set = string_set (string_number name g.blocks.strings.items) (known_of name said g) (extent_of said g.blocks.strings.items).sure g in
     knows_if ((length name == 0) || nat_lt 32 (length name)) g g set (knows_itself g)
@@ -59,8 +60,8 @@ value_known name (Some value) g = counted_known name (counted value) g
 
 registers_known : (text : List ℕ) (h : Hearing) → Knows h.grid (register_heard text h).grid
 registers_known text h =
-    let name = word text 1 in
-    let said = after_words text 2 in
+    let name = argument text 0 in
+    let said = after_arguments text 1 in
     let g = record h.grid { room = room_of false h.around } in
     knows_then h.grid g (register_set name said g) (record { same = refl })
     (knows_if ((length name == 0) || nat_lt 32 (length name)) g g (set_to name (number_in g said Units) g) (knows_itself g)
@@ -86,7 +87,7 @@ request_known requests.Other text h = knows_itself h.grid
 
 definition_known : (place : Option ℕ) (line : List ℕ) (h : Hearing) → Knows h.grid (definition_heard place line h).grid
 definition_known (Some place) line h = strings_known (after_blanks (drop place line)) h.grid
-definition_known None line h = request_known (request_of (word (accepted (request_in line)) 0)) (accepted (request_in line)) h
+definition_known None line h = request_known (request_of (name_of (accepted (request_in line)))) (accepted (request_in line)) h
 
 line_known : (line : List ℕ) (h : Hearing) → Knows h.grid (line_heard line h).grid
 line_known line h = by_tests h.around.copies (begins_control line)

@@ -1,9 +1,10 @@
--- The name and the arguments of a request outside of tables: words with blanks between them.
+-- The arguments of a request outside of tables: words with blanks between them.
 use Rattle.std.specs.Prelude.{ℕ, zero, suc, ◌+◌, ◌-◌, ◌*◌, min, Bool, false, ◌==◌, ◌&&◌, ◌||◌, nat_le, List, [], ◌∷◌, take, drop, Option, None, Some, codes, if◌then◌else◌}
 use Prim.Native.Char.{code}
 use Rattle.std.specs.Str.{bytes_eq}
+use Rattle.tbl_blocks.specs.Words.{arguments_of, name_of, request_in}
 
--- how long the word is that a text begins with
+-- how long the argument is that a text begins with
 abbrev pub argument_len : List ℕ → ℕ
 argument_len [] = 0
 argument_len (b ∷ bs) = if b == code " " then 0 else argument_len bs + 1
@@ -12,33 +13,28 @@ abbrev pub after_blanks : List ℕ → List ℕ
 after_blanks [] = []
 after_blanks (b ∷ bs) = if b == code " " then after_blanks bs else b ∷ bs
 
--- what stands after the control character of a line: the request's name, and its arguments
-abbrev pub request_in : List ℕ → List ℕ
-request_in [] = []
-request_in (b ∷ bs) = after_blanks bs
+abbrev pub after_one : List ℕ → List ℕ
+after_one text = drop (argument_len (after_blanks text)) (after_blanks text)
 
-abbrev pub after_word : List ℕ → List ℕ
-after_word text = drop (argument_len (after_blanks text)) (after_blanks text)
+-- after so many arguments
+abbrev pub passed : ℕ → List ℕ → List ℕ
+passed zero text = text
+passed (suc n) text = after_one (passed n text)
 
--- after so many words
-abbrev pub words_passed : ℕ → List ℕ → List ℕ
-words_passed zero text = text
-words_passed (suc n) text = after_word (words_passed n text)
+abbrev pub after_arguments : List ℕ → ℕ → List ℕ
+after_arguments request n = after_blanks (passed n (arguments_of request))
 
-abbrev pub after_words : List ℕ → ℕ → List ℕ
-after_words request n = after_blanks (words_passed n request)
+abbrev pub first_argument : List ℕ → List ℕ
+first_argument text = take (argument_len text) text
 
-abbrev pub first_word : List ℕ → List ℕ
-first_word text = take (argument_len text) text
-
-abbrev pub word : List ℕ → ℕ → List ℕ
-word request n = first_word (after_words request n)
+abbrev pub argument : List ℕ → ℕ → List ℕ
+argument request n = first_argument (after_arguments request n)
 
 -- the request after `.if n`, which holds here, or the request itself
 abbrev pub accepted : List ℕ → List ℕ
 accepted request =
-    if bytes_eq (word request 0) (codes "if") && bytes_eq (word request 1) (codes "n")
-    then request_in (after_words request 2) else request
+    if bytes_eq (name_of request) (codes "if") && bytes_eq (argument request 0) (codes "n")
+    then request_in (after_arguments request 1) else request
 
 -- ---- the number that digits write, 999 at most
 

@@ -5,32 +5,21 @@ use Rattle.tbl_reader.specs.declared.field.Mark.TheVariants as marks
 use Rattle.tbl_reader.specs.declared.formats.Call.{Call}
 use Rattle.tbl_reader.specs.declared.formats.Call.TheVariants as calls
 use Rattle.tbl_reader.specs.declared.formats.Called.{Called}
-use Rattle.tbl_reader.specs.declared.options.Frame as said
-use Rattle.tbl_reader.specs.declared.options.Frame.TheVariants as frames
 use Rattle.tbl_reader.specs.declared.options.Options.{Options}
 use Rattle.tbl_reader.specs.declared.telling.Tell.{Tell}
 use Rattle.tbl_reader.specs.declared.telling.Tell.TheVariants as tells
 use Rattle.tbl_table.specs.declared.table.Form.{Form}
 use Rattle.tbl_table.specs.declared.table.Form.TheVariants as forms
-use Rattle.tbl_table.specs.declared.table.Frame.{Frame}
-use Rattle.tbl_table.specs.declared.table.Frame.TheVariants as layouts
 use Rattle.tbl_table.specs.declared.table.Looks.{Looks}
 use Rattle.tbl_table.specs.declared.table.Stand.TheVariants as stands
 use Rattle.tbl_table.specs.declared.table.Table.{Table}
 use Rattle.tbl_table.specs.Formats.{byte_added, closed, equal_set, font_set, gap_begun, key_added, line_begun, line_ended, stand_set, text_added, wide_set, width_begun, zero_set}
-use Rattle.tbl_table.specs.Held.{kind_of}
 use Rattle.tbl_table.specs.Rows.{mark_added, request_ended, row_ended, rule_added, text_begun}
 
 -- ---- options and marks
 
-abbrev pub frame_of : said.Frame → Frame
-frame_of frames.Open = layouts.Open
-frame_of frames.Single = layouts.Single
-frame_of frames.All = layouts.All
-frame_of frames.Double = layouts.Double
-
 abbrev pub looks_of : Options → Looks
-looks_of o = record { center = o.center; expand = o.expand; frame = frame_of o.frame; nokeep = o.nokeep; nofit = o.nofit }
+looks_of o = record { center = o.center; expand = o.expand; frame = o.frame; nokeep = o.nokeep; nofit = o.nofit }
 
 abbrev pub form_of : Mark → Form
 form_of marks.Nothing = forms.Text
@@ -43,7 +32,7 @@ form_of marks.Above = forms.Above
 
 abbrev pub call_heard : Call → Table → Table
 call_heard calls.Nothing t = t
-call_heard (calls.Cell letter bars) t = key_added (kind_of letter) bars t
+call_heard (calls.Cell kind bars) t = key_added kind bars t
 call_heard (calls.Bars bars) t = line_ended bars t
 call_heard (calls.Font letter) t = font_set letter t
 call_heard calls.Width t = width_begun t

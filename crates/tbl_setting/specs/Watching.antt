@@ -6,6 +6,7 @@ use Prim.Native.Char.{code}
 use Rattle.nr_vectors.specs.Items.{Items}
 use Rattle.tbl_blocks.specs.declared.parts.Known.{Known}
 use Rattle.tbl_blocks.specs.Blocks.{extent_of}
+use Rattle.tbl_blocks.specs.Words.{name_of, request_in}
 use Rattle.tbl_columns.specs.declared.grid.Grid.{Grid}
 use Rattle.tbl_columns.specs.declared.grid.Room.{Room}
 use Rattle.tbl_columns.specs.Registers.{list_eq, register_set}
@@ -13,7 +14,7 @@ use Rattle.tbl_setting.specs.declared.requests.Request.{Request}
 use Rattle.tbl_setting.specs.declared.requests.Request.TheVariants as requests
 use Rattle.tbl_setting.specs.declared.watching.Around.{Around}
 use Rattle.tbl_setting.specs.declared.watching.Watch.{Watch}
-use Rattle.tbl_setting.specs.Arguments.{accepted, after_blanks, after_words, argument_len, definition_at, first_word, number_of, request_in, word}
+use Rattle.tbl_setting.specs.Arguments.{accepted, after_arguments, after_blanks, argument, argument_len, definition_at, first_argument, number_of}
 use Rattle.nr_units.specs.declared.units.Scale.TheVariants.{Unit}
 use Rattle.tbl_setting.specs.Lengths.{cells_said, length_in}
 use Rattle.tbl_setting.specs.Margins as margins
@@ -91,14 +92,14 @@ abbrev pub obeyed : Request → List ℕ → Around → Around
 obeyed requests.Title text a = record a { manual = true }
 obeyed requests.Section text a = section_begun a
 obeyed requests.Paragraph text a = record a { margins = margins.without_tag a.margins }
-obeyed requests.Item text a = record a { margins = margins.with_tag (number_of (word text 2)) a.margins }
-obeyed requests.Tagged text a = record a { margins = margins.with_tag (number_of (word text 1)) a.margins }
-obeyed requests.Deeper text a = record a { margins = margins.deeper (number_of (word text 1)) a.margins }
+obeyed requests.Item text a = record a { margins = margins.with_tag (number_of (argument text 1)) a.margins }
+obeyed requests.Tagged text a = record a { margins = margins.with_tag (number_of (argument text 0)) a.margins }
+obeyed requests.Deeper text a = record a { margins = margins.deeper (number_of (argument text 0)) a.margins }
 obeyed requests.Back text a = record a { margins = margins.back a.margins }
-obeyed requests.Indent text a = record a { margins = margins.moved (word text 1) a.margins }
+obeyed requests.Indent text a = record a { margins = margins.moved (argument text 0) a.margins }
 obeyed requests.Ragged text a = record a { spreads = false }
-obeyed requests.Adjust text a = adjusted (word text 1) a
-obeyed requests.Length text a = length_set (word text 1) a
+obeyed requests.Adjust text a = adjusted (argument text 0) a
+obeyed requests.Length text a = length_set (argument text 0) a
 obeyed requests.Copy text a = record a { copies = true }
 obeyed requests.Register text a = a
 obeyed requests.Other text a = a
@@ -137,7 +138,7 @@ string_defined name text g =
     (extent_of text g.blocks.strings.items).sure g
 
 abbrev pub string_heard : List ℕ → Grid → Grid
-string_heard text g = string_defined (first_word text) (string_of text (argument_len text)) g
+string_heard text g = string_defined (first_argument text) (string_of text (argument_len text)) g
 
 -- ---- a line: what it changes of what is known of the page, and of the table's strings and registers
 
@@ -149,15 +150,15 @@ abbrev pub hearing : Around → Grid → Hearing
 hearing a g = record { around = a; grid = g }
 
 abbrev pub register_heard : List ℕ → Hearing → Hearing
-register_heard text h = hearing (paper_set (word text 1) (word text 2) h.around)
-    (register_set (word text 1) (after_words text 2) (record h.grid { room = room_of false h.around }))
+register_heard text h = hearing (paper_set (argument text 0) (argument text 1) h.around)
+    (register_set (argument text 0) (after_arguments text 1) (record h.grid { room = room_of false h.around }))
 
 abbrev pub obeyed_by : Request → List ℕ → Hearing → Hearing
 obeyed_by requests.Register text h = register_heard text h
 obeyed_by request text h = hearing (obeyed request text h.around) h.grid
 
 abbrev pub request_heard : List ℕ → Hearing → Hearing
-request_heard text h = obeyed_by (request_of (word text 0)) text h
+request_heard text h = obeyed_by (request_of (name_of text)) text h
 
 abbrev pub definition_heard : Option ℕ → List ℕ → Hearing → Hearing
 definition_heard (Some place) line h = hearing h.around (string_heard (after_blanks (drop place line)) h.grid)

@@ -1,6 +1,8 @@
-//! The name and the arguments of a request outside of tables.
+//! The arguments of a request outside of tables.
 ghost use Rattle.std.specs.Prelude.{◌≡◌, ◌≤◌, length, IfSome, IsTrue};
 ghost use Rattle.tbl_setting.specs.Arguments as specs;
+
+use tbl_blocks::{arguments_of, name_of, request_in};
 
 /// The greatest number that is read.
 const MOST: usize = 999;
@@ -32,29 +34,19 @@ pub(crate) fn after_blanks(text: &[u8]) -> &[u8]
     b""
 }
 
-/// The request of a line, after its control character: its name, and its arguments.
-pub(crate) fn request_in(line: &[u8]) -> &[u8]
-    ensures { result.now ≡ specs.request_in line.now }
+/// The argument of a request after so many others.
+pub(crate) fn argument(request: &[u8], place: usize) -> &[u8]
+    ensures { result.now ≡ specs.argument request.now place }
 {
-    if line.is_empty() {
-        return b"";
-    }
-    after_blanks(&line[1..])
-}
-
-/// The word of a request after so many others; its name is the first.
-pub(crate) fn word(request: &[u8], place: usize) -> &[u8]
-    ensures { result.now ≡ specs.word request.now place }
-{
-    let text = after_words(request, place);
+    let text = after_arguments(request, place);
     &text[..argument_len(text)]
 }
 
-/// What stands after so many words of a request.
-pub(crate) fn after_words(request: &[u8], count: usize) -> &[u8]
-    ensures { result.now ≡ specs.after_words request.now count }
+/// What stands after so many arguments of a request.
+pub(crate) fn after_arguments(request: &[u8], count: usize) -> &[u8]
+    ensures { result.now ≡ specs.after_arguments request.now count }
 {
-    let mut rest = request;
+    let mut rest = arguments_of(request);
     for _ in 0..count {
         let text = after_blanks(rest);
         rest = &text[argument_len(text)..];
@@ -66,8 +58,8 @@ pub(crate) fn after_words(request: &[u8], count: usize) -> &[u8]
 pub(crate) fn accepted(request: &[u8]) -> &[u8]
     ensures { result.now ≡ specs.accepted request.now }
 {
-    if word(request, 0) == b"if".as_slice() && word(request, 1) == b"n".as_slice() {
-        request_in(after_words(request, 2))
+    if name_of(request) == b"if".as_slice() && argument(request, 0) == b"n".as_slice() {
+        request_in(after_arguments(request, 1))
     } else {
         request
     }

@@ -3,20 +3,8 @@ ghost use Rattle.std.specs.Prelude.{◌≡◌};
 ghost use Rattle.tbl_table.specs.Held.{emptied};
 ghost use Rattle.tbl_setting.specs.Hearing as specs;
 
-use tbl_reader::{Call, Called, Frame, Mark, Options, Tell};
-use tbl_table::{self, Form, Kind, Looks, Stand, Table};
-
-/// A frame as the layout has it.
-fn frame_of(frame: Frame) -> tbl_table::Frame
-    ensures { result ≡ specs.frame_of frame }
-{
-    match frame {
-        Frame::Open => tbl_table::Frame::Open,
-        Frame::Single => tbl_table::Frame::Single,
-        Frame::All => tbl_table::Frame::All,
-        Frame::Double => tbl_table::Frame::Double,
-    }
-}
+use tbl_reader::{Call, Called, Mark, Options, Tell};
+use tbl_table::{Form, Looks, Stand, Table};
 
 /// How a table looks by its options.
 pub(crate) fn looks_of(options: Options) -> Looks
@@ -25,7 +13,7 @@ pub(crate) fn looks_of(options: Options) -> Looks
     Looks {
         center: options.center,
         expand: options.expand,
-        frame: frame_of(options.frame),
+        frame: options.frame,
         nokeep: options.nokeep,
         nofit: options.nofit,
     }
@@ -51,7 +39,7 @@ fn tell_call(call: Call, table: &mut Table)
 {
     match call {
         Call::Nothing => {}
-        Call::Cell(kind, bars) => table.add_key(Kind::of(kind), bars),
+        Call::Cell(kind, bars) => table.add_key(kind, bars),
         Call::Bars(bars) => table.end_line(bars),
         Call::Font(letter) => table.set_font(letter),
         Call::Width => table.begin_width(),

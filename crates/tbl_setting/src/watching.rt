@@ -5,7 +5,7 @@ ghost use Rattle.tbl_columns.specs.Held.{emptied};
 ghost use Rattle.tbl_setting.specs.Watching as specs;
 
 use super::arguments::{
-    accepted, after_blanks, after_words, argument_len, definition_at, number_of, request_in, word,
+    accepted, after_arguments, after_blanks, argument, argument_len, definition_at, number_of,
 };
 use super::lengths::{cells_said, paper_cells};
 use super::margins::{INDENT, Margins, or_number};
@@ -13,7 +13,7 @@ use super::requests::{Request, request_of};
 use nr_units::Name;
 use nr_vectors::{CountedAlloc, FixedVec};
 use std::alloc::AllocError;
-use tbl_blocks::Known;
+use tbl_blocks::{Known, name_of, request_in};
 use tbl_columns::{Grid, Room};
 use tbl_table::{add_item, set_item};
 
@@ -160,12 +160,12 @@ impl Around {
     fn obey(&mut self, request: Request, text: &[u8])
         ensures { self.new ≡ specs.obeyed request text.now self.old }
     {
-        let first = word(text, 1);
+        let first = argument(text, 0);
         match request {
             Request::Title => self.manual = true,
             Request::Section => self.begin_section(),
             Request::Paragraph => self.margins.end_tag(),
-            Request::Item => self.margins.set_tag(number_of(word(text, 2))),
+            Request::Item => self.margins.set_tag(number_of(argument(text, 1))),
             Request::Tagged => self.margins.set_tag(number_of(first)),
             Request::Deeper => self.margins.go_deeper(number_of(first)),
             Request::Back => self.margins.go_back(),
@@ -183,11 +183,11 @@ impl Around {
         ensures value { specs.hearing self.new grid.new ≡ specs.request_heard text.now (specs.hearing self.old grid.old) }
         ensures room { emptied grid.new ≡ emptied grid.old }
     {
-        let request = request_of(word(text, 0));
+        let request = request_of(name_of(text));
         if matches!(request, Request::Register) {
             grid.room = self.room(false);
-            grid.set_register(word(text, 1), after_words(text, 2));
-            self.set_paper(word(text, 1), word(text, 2));
+            grid.set_register(argument(text, 0), after_arguments(text, 1));
+            self.set_paper(argument(text, 0), argument(text, 1));
             return;
         }
         self.obey(request, text);

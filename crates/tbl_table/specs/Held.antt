@@ -1,7 +1,6 @@
 -- A table as it is held: its text, its lines of formats with their letters, and its rows with their fields. Lists are read by number; what
 -- lies beyond them is empty.
 use Rattle.std.specs.Prelude.{ℕ, ◌-◌, ◌*◌, Bool, true, false, ◌==◌, ◌&&◌, not, nat_le, nat_lt, List, [], length, take, drop, get_or, None, Some, min, if◌then◌else◌, ◌||◌, suc, zero, ◌+◌}
-use Prim.Native.Char.{code}
 use Rattle.tbl_table.specs.declared.table.Field.{Field}
 use Rattle.tbl_table.specs.declared.table.Form.{Form}
 use Rattle.tbl_table.specs.declared.table.Form.TheVariants as forms
@@ -24,16 +23,9 @@ use Rattle.nr_vectors.specs.Items.{Items}
 
 -- ---- letters
 
-abbrev pub kind_of : ℕ → Kind
-kind_of letter =
-    if letter == code "r" then kinds.Right else
-    if letter == code "c" then kinds.Centre else
-    if letter == code "n" then kinds.Number else
-    if letter == code "a" then kinds.Alpha else
-    if letter == code "s" then kinds.Across else
-    if letter == code "^" then kinds.Down else
-    if letter == code "_" then kinds.Rule else
-    if letter == code "=" then kinds.DoubleRule else kinds.Left
+abbrev pub is_number : Kind → Bool
+is_number kinds.Number = true
+is_number kind = false
 
 -- those of rules, _ and =
 abbrev pub is_ruling : Kind → Bool

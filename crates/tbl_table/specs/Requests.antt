@@ -1,47 +1,10 @@
 -- What requests between rows change (tbl(1), "Table data"): a line of a request begins with a control character; blanks may stand before its name. A name is letters, digits and `_`.
 use Rattle.std.specs.Prelude.{ℕ, ◌+◌, ◌-◌, ◌*◌, min, Bool, false, ◌==◌, ◌&&◌, ◌||◌, not, nat_le, List, [], ◌∷◌, length, Option, None, Some, if◌then◌else◌}
 use Prim.Native.Char.{code}
-
-abbrev pub is_blank : ℕ → Bool
-is_blank b = (b == code " ") || (b == code "\t")
-
-abbrev pub is_letter : ℕ → Bool
-is_letter b =
-    (nat_le (code "a") b && nat_le b (code "z")) || (nat_le (code "A") b && nat_le b (code "Z"))
-    || (nat_le (code "0") b && nat_le b (code "9"))
-    || (b == code "_")
-
-abbrev pub after_blanks : List ℕ → List ℕ
-after_blanks [] = []
-after_blanks (b ∷ bs) = if is_blank b then after_blanks bs else b ∷ bs
-
-abbrev pub after_name : List ℕ → List ℕ
-after_name [] = []
-after_name (b ∷ bs) = if is_letter b then after_name bs else b ∷ bs
-
--- the name that a text begins with
-abbrev pub name_of : List ℕ → List ℕ
-name_of [] = []
-name_of (b ∷ bs) = if is_letter b then b ∷ name_of bs else []
+use Rattle.tbl_blocks.specs.Words.{after_blanks, is_request, name_of, request_in, request_name}
 
 abbrev pub is_empty : List ℕ → Bool
 is_empty text = length text == 0
-
-abbrev pub is_control : ℕ → Bool
-is_control b = (b == code ".") || (b == code "'")
-
-abbrev pub is_asked : List ℕ → Bool
-is_asked [] = false
-is_asked (b ∷ bs) = is_control b
-
--- what stands after the control character
-abbrev pub after_first : List ℕ → List ℕ
-after_first [] = []
-after_first (b ∷ bs) = bs
-
--- the name of a request
-abbrev pub request : List ℕ → List ℕ
-request line = name_of (after_blanks (after_first line))
 
 -- a name of two letters
 abbrev pub is_one : List ℕ → ℕ → ℕ → Bool
@@ -57,7 +20,7 @@ is_definition name =
     || is_one name (code "a") (code "f")
 
 abbrev pub defines : List ℕ → Bool
-defines line = is_asked line && is_definition (request line)
+defines line = is_request line && is_definition (request_name line)
 
 -- sp br ft ps vs ds nr as rr rm ne ns rs af
 abbrev pub is_harmless_pair : ℕ → ℕ → Bool
@@ -87,7 +50,7 @@ leaves_filling text = is_empty text || is_harmless_name (name_of text) text
 
 -- a request that leaves filling and indent
 abbrev pub is_harmless : List ℕ → Bool
-is_harmless line = is_asked line && leaves_filling (after_blanks (after_first line))
+is_harmless line = is_request line && leaves_filling (request_in line)
 
 -- ---- .sp with a number of lines, or without one: `v` may stand after it, and a fraction, of which half a line and more is one
 
@@ -131,7 +94,7 @@ space_in (a ∷ b ∷ bs) = if (a == code "s") && (b == code "p") then lines_ask
 space_in text = None
 
 abbrev pub space_asked : List ℕ → Option ℕ
-space_asked line = if is_asked line then space_in (after_blanks (after_first line)) else None
+space_asked line = if is_request line then space_in (request_in line) else None
 
 -- a condition that always holds
 abbrev pub after_n : List ℕ → List ℕ
@@ -146,11 +109,11 @@ after_if text = []
 -- the request that `.if n` asks for, or the line itself
 abbrev pub line_asked : List ℕ → List ℕ
 line_asked line =
-    if is_asked (after_if (after_blanks (after_first line))) then after_if (after_blanks (after_first line)) else line
+    if is_request (after_if (request_in line)) then after_if (request_in line) else line
 
 -- how many lines a request of space asks for
 abbrev pub space_of : List ℕ → Option ℕ
-space_of line = if is_asked line then space_asked (line_asked line) else None
+space_of line = if is_request line then space_asked (line_asked line) else None
 
 -- ---- a condition over several lines: a request opens one by `\{`, and one by `\}` ends it
 
@@ -164,7 +127,7 @@ has_brace brace [] = false
 has_brace brace (b ∷ bs) = ((b == code "\\") && begins_with brace bs) || has_brace brace bs
 
 abbrev pub always_holds : List ℕ → Bool
-always_holds line = not (is_empty (after_if (after_blanks (after_first line))))
+always_holds line = not (is_empty (after_if (request_in line)))
 
 -- one that always holds, and stands in no other, is none
 abbrev pub one_opened : List ℕ → ℕ → ℕ

@@ -7,21 +7,11 @@ use super::lists::item_at;
 use super::table::{Field, Form, Frame, Item, Key, Kind, Line, Looks, Row, Span, Stand, Table};
 
 impl Kind {
-    /// What a letter says; any other is `l`.
-    pub fn of(letter: u8) -> Kind
-        ensures { result ≡ held.kind_of letter }
+    /// Whether its fields are numbers.
+    pub fn is_number(self) -> bool
+        ensures { result ≡ held.is_number self }
     {
-        match letter {
-            b'r' => Kind::Right,
-            b'c' => Kind::Centre,
-            b'n' => Kind::Number,
-            b'a' => Kind::Alpha,
-            b's' => Kind::Across,
-            b'^' => Kind::Down,
-            b'_' => Kind::Rule,
-            b'=' => Kind::DoubleRule,
-            _ => Kind::Left,
-        }
+        matches!(self, Kind::Number)
     }
 
     /// Whether it makes a rule of an empty field.

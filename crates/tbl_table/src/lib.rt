@@ -1,6 +1,6 @@
 //! What a table is: its options, its formats, and its rows with their fields, as they were read.
 //!
-//! It stands on nr_vectors. To read: `lists`, `signs`, `requests`; `table`, `held`, `formats`, `rows`.
+//! It stands on nr_vectors and tbl_blocks. To read: `lists`, `signs`, `requests`; `table`, `held`, `formats`, `rows`.
 //!
 //! Proved: A table is held as lists: its text, its lines of formats with their letters, its rows with their fields. Each
 //! call that changes it says what it becomes.

@@ -3,80 +3,10 @@
 ghost use Rattle.std.specs.Prelude.{◌≡◌, ◌≤◌};
 ghost use Rattle.tbl_table.specs.Requests as specs;
 
+use tbl_blocks::{after_blanks, is_request, name_of, request_in, request_name};
+
 /// The most lines that `.sp` gives.
 const MOST_SPACE: usize = 10_000;
-
-/// Whether a byte is a blank.
-fn is_blank(byte: u8) -> bool
-    ensures { result ≡ specs.is_blank byte }
-{
-    byte == b' ' || byte == b'\t'
-}
-
-/// Whether a byte is a part of a name here.
-fn is_letter(byte: u8) -> bool
-    ensures { result ≡ specs.is_letter byte }
-{
-    matches!(byte, b'a'..=b'z' | b'A'..=b'Z' | b'0'..=b'9' | b'_')
-}
-
-/// What stands after blanks.
-fn after_blanks(text: &[u8]) -> &[u8]
-    ensures { result.now ≡ specs.after_blanks text.now }
-{
-    for (at, byte) in text.iter().enumerate() {
-        if !is_blank(*byte) {
-            return &text[at..];
-        }
-    }
-    b""
-}
-
-/// What stands after a name.
-fn after_name(text: &[u8]) -> &[u8]
-    ensures { result.now ≡ specs.after_name text.now }
-{
-    for (at, byte) in text.iter().enumerate() {
-        if !is_letter(*byte) {
-            return &text[at..];
-        }
-    }
-    b""
-}
-
-/// Whether a line begins with a control character.
-fn is_asked(line: &[u8]) -> bool
-    ensures { result ≡ specs.is_asked line.now }
-{
-    !line.is_empty() && (line[0] == b'.' || line[0] == b'\'')
-}
-
-/// What stands after the control character of a line that has one.
-fn after_first(line: &[u8]) -> &[u8]
-    ensures { result.now ≡ specs.after_first line.now }
-{
-    if line.is_empty() { b"" } else { &line[1..] }
-}
-
-/// The name that a text begins with.
-#[tactic(auto, using(crate::proofs::Begins::name_before, crate::proofs::Begins::rest_within))]
-fn name_of(text: &[u8]) -> &[u8]
-    ensures { result.now ≡ specs.name_of text.now }
-{
-    let rest = after_name(text);
-    if rest.len() <= text.len() {
-        &text[..text.len() - rest.len()]
-    } else {
-        text
-    }
-}
-
-/// The name of a request; blanks may stand before it.
-fn request(line: &[u8]) -> &[u8]
-    ensures { result.now ≡ specs.request line.now }
-{
-    name_of(after_blanks(after_first(line)))
-}
 
 /// Whether a name is this one of two letters.
 fn is_one(name: &[u8], first: u8, second: u8) -> bool
@@ -101,7 +31,7 @@ fn is_definition(name: &[u8]) -> bool
 pub fn defines(line: &[u8]) -> bool
     ensures { result ≡ specs.defines line.now }
 {
-    is_asked(line) && is_definition(request(line))
+    is_request(line) && is_definition(request_name(line))
 }
 
 /// Whether two letters begin the name of a request that leaves filling and indent.
@@ -158,7 +88,7 @@ fn leaves_filling(text: &[u8]) -> bool
 pub fn is_harmless(line: &[u8]) -> bool
     ensures { result ≡ specs.is_harmless line.now }
 {
-    is_asked(line) && leaves_filling(after_blanks(after_first(line)))
+    is_request(line) && leaves_filling(request_in(line))
 }
 
 /// So many lines, if only blanks stand there.
@@ -260,8 +190,8 @@ fn space_in(text: &[u8]) -> Option<usize>
 fn space_asked(line: &[u8]) -> Option<usize>
     ensures { result ≡ specs.space_asked line.now }
 {
-    if is_asked(line) {
-        space_in(after_blanks(after_first(line)))
+    if is_request(line) {
+        space_in(request_in(line))
     } else {
         None
     }
@@ -291,15 +221,15 @@ fn after_if(text: &[u8]) -> &[u8]
 fn line_asked(line: &[u8]) -> &[u8]
     ensures { result.now ≡ specs.line_asked line.now }
 {
-    let asked = after_if(after_blanks(after_first(line)));
-    if is_asked(asked) { asked } else { line }
+    let asked = after_if(request_in(line));
+    if is_request(asked) { asked } else { line }
 }
 
 /// How many lines a request of space asks for, if it is one of whole lines.
 pub fn space_of(line: &[u8]) -> Option<usize>
     ensures { result ≡ specs.space_of line.now }
 {
-    if is_asked(line) {
+    if is_request(line) {
         space_asked(line_asked(line))
     } else {
         None
@@ -323,7 +253,7 @@ fn has_brace(text: &[u8], brace: u8) -> bool
 fn always_holds(line: &[u8]) -> bool
     ensures { result ≡ specs.always_holds line.now }
 {
-    !after_if(after_blanks(after_first(line))).is_empty()
+    !after_if(request_in(line)).is_empty()
 }
 
 /// How many conditions over several lines are open after a request, of which so many were before it.
