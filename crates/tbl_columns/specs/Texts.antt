@@ -1,12 +1,13 @@
 -- Text blocks (Lesk, "Text blocks"; tbl(1), "Text blocks"), and fields that have become such: their words are read, and their lines filled in
 -- as many cells as their columns have by then, in the order of rows. Where no column of a block says its width it takes a share of the line
 -- at least, as if the table had one column more.
-use Rattle.std.specs.Prelude.{ℕ, zero, suc, ◌+◌, ◌-◌, max, min, Bool, true, false, ◌==◌, ◌&&◌, ◌||◌, nat_le, nat_lt, List, [], ◌∷◌, length, drop, get_or, Option, None, Some, if◌then◌else◌}
+use Rattle.std.specs.Prelude.{ℕ, zero, suc, ◌+◌, ◌-◌, max, min, Bool, true, false, ◌==◌, ◌&&◌, ◌||◌, nat_le, nat_lt, List, [], ◌∷◌, length, drop, get_or, Option, None, Some, unwrap_or, if◌then◌else◌}
 use Rattle.tbl_blocks.specs.declared.blocks.Blocks.{Blocks}
+use Rattle.tbl_blocks.specs.declared.parts.Font.{Font}
+use Rattle.tbl_blocks.specs.declared.parts.Font.TheVariants as fonts
 use Rattle.tbl_blocks.specs.declared.parts.Line.{Line}
 use Rattle.tbl_blocks.specs.declared.parts.Seen.{Seen}
 use Rattle.tbl_blocks.specs.Blocks as blocks
-use Rattle.tbl_blocks.specs.Parts.{font_of}
 use Rattle.tbl_columns.specs.declared.grid.Block.{Block}
 use Rattle.tbl_columns.specs.declared.grid.Cell.{Cell}
 use Rattle.tbl_columns.specs.declared.grid.Column.{Column}
@@ -44,10 +45,14 @@ with_blocks b g = record g { blocks = b }
 abbrev pub parts : Grid → ℕ
 parts g = length g.blocks.parts.items
 
+-- that of its column, or roman
+abbrev pub font_of : Cell → Font
+font_of f = unwrap_or f.key.font fonts.Roman
+
 -- a block may be cut wherever its lines may end, a field at its blanks alone
 abbrev pub block_read_in : ℕ → Cell → Grid → Blocks
 block_read_in n f g =
-    blocks.block_read (text_of g.table f.field.span) f.field.span.start (font_of f.key.font) g.spreads g.blocks
+    blocks.block_read (text_of g.table f.field.span) f.field.span.start (font_of f) g.spreads g.blocks
 
 abbrev pub read_block : ℕ → Cell → Grid → Grid
 read_block n f g =
@@ -57,7 +62,7 @@ read_block n f g =
 
 abbrev pub words_read_in : Cell → Grid → Blocks
 words_read_in f g =
-    blocks.field_read (text_of g.table f.field.span) f.field.span.start (font_of f.key.font) g.blocks
+    blocks.field_read (text_of g.table f.field.span) f.field.span.start (font_of f) g.blocks
 
 abbrev pub read_words : ℕ → Cell → Grid → Grid
 read_words n f g =

@@ -9,6 +9,13 @@ use super::grid::{Block, Cell, Column, Grid};
 use tbl_blocks::{Font, Line, Seen};
 use tbl_table::{Form, add_item, set_item};
 
+/// The font of a field: that of its column, or roman.
+fn font_of(cell: &Cell) -> Font
+    ensures { result ≡ specs.font_of cell.now }
+{
+    cell.key.font.unwrap_or(Font::Roman)
+}
+
 impl Grid {
     /// The parts from one on are those of a field, whose lines are no narrower than this.
     fn add_text(&mut self, number: usize, first: usize, word: usize, seen: Seen)
@@ -45,7 +52,7 @@ impl Grid {
     {
         let first = self.blocks.parts.len();
         let text = self.table.bytes(cell.field.span);
-        let font = Font::of(cell.key.font);
+        let font = font_of(&cell);
         let seen = self
             .blocks
             .read_block(text, cell.field.span.start, font, self.spreads);
@@ -61,7 +68,7 @@ impl Grid {
     {
         let first = self.blocks.parts.len();
         let text = self.table.bytes(cell.field.span);
-        let font = Font::of(cell.key.font);
+        let font = font_of(&cell);
         let seen = self.blocks.read_field(text, cell.field.span.start, font);
         let end = self.blocks.parts.len();
         let word = self.blocks.longest_word(first.min(end), end);

@@ -11,7 +11,6 @@ use Rattle.tbl_blocks.specs.declared.parts.Seen.{Seen}
 use Rattle.tbl_blocks.specs.Blocks.{longest_run, longest_word, some_parts}
 use Rattle.tbl_blocks.specs.Filling.{longest}
 use Rattle.tbl_blocks.specs.Laws.{HasNoIndents, spread_width}
-use Rattle.tbl_blocks.specs.Parts.{font_of}
 use Rattle.tbl_blocks.proofs.Longest.{longest_fits, words_no_shorter}
 use Rattle.tbl_blocks.proofs.PartsAdded.{blocks_are_added, fields_are_added}
 use Rattle.tbl_columns.specs.declared.grid.Block.{Block}
@@ -19,7 +18,7 @@ use Rattle.tbl_columns.specs.declared.grid.Cell.{Cell}
 use Rattle.tbl_columns.specs.declared.grid.Grid.{Grid}
 use Rattle.tbl_columns.specs.Held.{no_block, text}
 use Rattle.tbl_columns.specs.Laws.{lines_in}
-use Rattle.tbl_columns.specs.Texts.{block_read_in, end_of, filled_text, parts, read_block, read_words, text_added, text_from, text_lines, widest_line, with_blocks, with_lines, words_read_in}
+use Rattle.tbl_columns.specs.Texts.{block_read_in, end_of, filled_text, font_of, parts, read_block, read_words, text_added, text_from, text_lines, widest_line, with_blocks, with_lines, words_read_in}
 use Rattle.tbl_columns.proofs.Turns.{set_has}
 use Rattle.tbl_drawing.proofs.Below.{below_or, by_cases, two}
 use Rattle.tbl_table.specs.Held.{text_of}
@@ -91,7 +90,7 @@ least_of low high h = omega (arith, h)
 
 pub block_stands : (n : ℕ) (f : Cell) (t : Grid) → TextsStand t → TextsStand (read_block n f t)
 block_stands n f t stand =
-    with_new (blocks_are_added (text_of t.table f.field.span) f.field.span.start (font_of f.key.font) t.spreads t.blocks)
+    with_new (blocks_are_added (text_of t.table f.field.span) f.field.span.start (font_of f) t.spreads t.blocks)
   where
     with_new : (new : List Part) × ((block_read_in n f t).parts.items ≡ t.blocks.parts.items ++ new) → TextsStand (read_block n f t)
     with_new (new, are) =
@@ -104,7 +103,7 @@ block_stands n f t stand =
         (within, (omega arith, run)) stand
 
 pub words_stand : (n : ℕ) (f : Cell) (t : Grid) → TextsStand t → TextsStand (read_words n f t)
-words_stand n f t stand = with_new (fields_are_added (text_of t.table f.field.span) f.field.span.start (font_of f.key.font) t.blocks)
+words_stand n f t stand = with_new (fields_are_added (text_of t.table f.field.span) f.field.span.start (font_of f) t.blocks)
   where
     with_new : (new : List Part) × (((words_read_in f t).parts.items ≡ t.blocks.parts.items ++ new) × HasNoIndents new) → TextsStand (read_words n f t)
     with_new (new, (are, plain)) =

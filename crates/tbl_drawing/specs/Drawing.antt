@@ -1,7 +1,7 @@
 -- The lines of a table, as strokes of a pen from the left to the right (Lesk, "Format"; tbl(1), "Column classifiers" and "Table data").
 -- In a row stand bars, rules of columns, fields, and lines of blocks; in a rule between two rows bars meet it, and fields go on over it from
 -- above.
-use Rattle.std.specs.Prelude.{ℕ, zero, suc, ◌+◌, ◌-◌, ◌/◌, Bool, true, false, ◌==◌, ◌&&◌, ◌||◌, not, nat_le, nat_lt, length, List, [], ◌∷◌, ◌++◌, replicate, get_or, Option, None, Some, if◌then◌else◌}
+use Rattle.std.specs.Prelude.{ℕ, zero, suc, ◌+◌, ◌-◌, ◌/◌, Bool, true, false, ◌==◌, ◌&&◌, ◌||◌, not, nat_le, nat_lt, length, List, [], ◌∷◌, ◌++◌, replicate, get_or, codes, Option, None, Some, if◌then◌else◌}
 use Prim.Native.Char.{code}
 use Rattle.tbl_blocks.specs.declared.parts.Font.{Font}
 use Rattle.tbl_blocks.specs.declared.parts.Font.TheVariants as fonts
@@ -84,19 +84,28 @@ begin_of l f =
 
 -- ---- its text, with its font
 
-abbrev pub font_text : ℕ → List ℕ
-font_text font = if font == 0 then [] else code "\\" ∷ code "f" ∷ font ∷ []
+abbrev pub font_text : Font → List ℕ
+font_text font = code "\\" ∷ code "f" ∷ letter_of font ∷ []
+
+abbrev pub font_if : Option Font → List ℕ
+font_if None = []
+font_if (Some font) = font_text font
 
 abbrev pub has_escape : List ℕ → Bool
 has_escape [] = false
 has_escape (b ∷ bs) = (b == code "\\") || has_escape bs
 
-abbrev pub font_back : ℕ → List ℕ → List ℕ
-font_back font text = if font == 0 then [] else font_text (if has_escape text then code "R" else code "P")
+-- after a text that may have changed it the font is roman
+abbrev pub font_restored : List ℕ → List ℕ
+font_restored text = if has_escape text then font_text fonts.Roman else codes "\\fP"
+
+abbrev pub font_back : Option Font → List ℕ → List ℕ
+font_back None text = []
+font_back (Some font) text = font_restored text
 
 abbrev pub field_text : Layout → Cell → List ℕ
 field_text l f =
-    font_text f.key.font ++ text_of l.grid.table f.field.span ++ font_back f.key.font (text_of l.grid.table f.field.span)
+    font_if f.key.font ++ text_of l.grid.table f.field.span ++ font_back f.key.font (text_of l.grid.table f.field.span)
 
 -- ---- strokes of a field
 
@@ -104,8 +113,12 @@ abbrev pub first_byte : List ℕ → ℕ
 first_byte [] = code " "
 first_byte (b ∷ bs) = b
 
+abbrev pub first_in : Option Font → List ℕ → ℕ
+first_in None text = first_byte text
+first_in (Some font) text = code "\\"
+
 abbrev pub first_of : Layout → Cell → ℕ
-first_of l f = if f.key.font == 0 then first_byte (text_of l.grid.table f.field.span) else code "\\"
+first_of l f = first_in f.key.font (text_of l.grid.table f.field.span)
 
 abbrev pub if_sure : Bool → ℕ → Option ℕ
 if_sure sure cells = if sure then Some cells else None
@@ -143,10 +156,13 @@ abbrev pub part_text : Layout → ℕ → List ℕ
 part_text l n = text_of l.grid.table (span_of (part l n))
 
 abbrev pub is_same_font : Font → Font → Bool
-is_same_font a b = letter_of a == letter_of b
+is_same_font fonts.Roman fonts.Roman = true
+is_same_font fonts.Italic fonts.Italic = true
+is_same_font fonts.Bold fonts.Bold = true
+is_same_font one other = false
 
 abbrev pub font_change : Font → Font → List ℕ
-font_change before now = if is_same_font before now then [] else font_text (letter_of now)
+font_change before now = if is_same_font before now then [] else font_text now
 
 -- of a line that is spread, gaps have more blanks
 abbrev pub more_in : Part → Line → ℕ → ℕ

@@ -21,7 +21,10 @@ use tbl_table::Span;
 fn is_same(one: Font, other: Font) -> bool
     ensures { result ≡ specs.is_same_font one other }
 {
-    one.letter() == other.letter()
+    matches!(
+        (one, other),
+        (Font::Roman, Font::Roman) | (Font::Italic, Font::Italic) | (Font::Bold, Font::Bold)
+    )
 }
 
 /// Where a part's text stands.
@@ -41,7 +44,7 @@ fn change_font<W: Sink>(before: Font, font: Font, out: &mut Out<'_, W>)
     if is_same(before, font) {
         return;
     }
-    put_font(font.letter(), out);
+    put_font(font, out);
 }
 
 /// Whether a part is not the first of a line.

@@ -8,6 +8,7 @@ ghost use Rattle.tbl_table.specs.Held.{text_of};
 use super::layout::Layout;
 use super::writing::Out;
 use nr_units::sink::Sink;
+use tbl_blocks::Font;
 use tbl_columns::{Cell, Column};
 use tbl_table::{Form, Kind};
 
@@ -47,26 +48,54 @@ fn in_middle(room: usize, width: usize, left: usize) -> usize
     inward.saturating_sub(width.saturating_sub(room) / 2)
 }
 
-/// A font is set, if there is one.
-#[tactic(auto, using(crate::proofs::Tapes::draws_no_bytes))]
-pub(crate) fn put_font<W: Sink>(font: u8, out: &mut Out<'_, W>)
+/// A font is set.
+pub(crate) fn put_font<W: Sink>(font: Font, out: &mut Out<'_, W>)
     ensures { Draws out.old out.new (Bytes (specs.font_text font) ∷ []) }
 {
-    if font == 0 {
-        return;
+    out.add(&[b'\\', b'f', font.letter()]);
+}
+
+/// A font is set, if there is one.
+#[tactic(auto, using(crate::proofs::Tapes::draws_no_bytes))]
+fn put_font_if<W: Sink>(font: Option<Font>, out: &mut Out<'_, W>)
+    ensures { Draws out.old out.new (Bytes (specs.font_if font) ∷ []) }
+{
+    match font {
+        None => {}
+        Some(font) => put_font(font, out),
     }
-    out.add(&[b'\\', b'f', font]);
 }
 
 /// The font is as before a text: roman where that may have changed it.
+fn restore_font<W: Sink>(text: &[u8], out: &mut Out<'_, W>)
+    ensures { Draws out.old out.new (Bytes (specs.font_restored text.now) ∷ []) }
+{
+    if has_escape(text) {
+        put_font(Font::Roman, out);
+    } else {
+        out.add(b"\\fP");
+    }
+}
+
+/// The font is as before a text that has one of its own.
 #[tactic(auto, using(crate::proofs::Tapes::draws_no_bytes))]
-fn put_font_back<W: Sink>(font: u8, text: &[u8], out: &mut Out<'_, W>)
+fn put_font_back<W: Sink>(font: Option<Font>, text: &[u8], out: &mut Out<'_, W>)
     ensures { Draws out.old out.new (Bytes (specs.font_back font text.now) ∷ []) }
 {
-    if font == 0 {
-        return;
+    match font {
+        None => {}
+        Some(_font) => restore_font(text, out),
     }
-    put_font(if has_escape(text) { b'R' } else { b'P' }, out);
+}
+
+/// The first byte of a text with a font, or without.
+fn first_in(font: Option<Font>, text: &[u8]) -> u8
+    ensures { result ≡ specs.first_in font text.now }
+{
+    match font {
+        None => first_byte(text),
+        Some(_) => b'\\',
+    }
 }
 
 /// Whether a field stands at the left of its column.
@@ -162,7 +191,7 @@ impl Layout {
     fn put_text<W: Sink>(&self, cell: &Cell, out: &mut Out<'_, W>)
         ensures { Draws out.old out.new (Text (specs.field_text self.now cell.now) ∷ []) }
     {
-        put_font(cell.key.font, out);
+        put_font_if(cell.key.font, out);
         self.put_unset(cell, out);
         put_font_back(cell.key.font, self.grid.table.bytes(cell.field.span), out);
     }
@@ -171,10 +200,7 @@ impl Layout {
     fn first_of(&self, cell: &Cell) -> u8
         ensures { result ≡ specs.first_of self.now cell.now }
     {
-        if cell.key.font == 0 {
-            return first_byte(self.grid.table.bytes(cell.field.span));
-        }
-        b'\\'
+        first_in(cell.key.font, self.grid.table.bytes(cell.field.span))
     }
 
     /// The text of a field.

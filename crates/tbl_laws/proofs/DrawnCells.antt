@@ -1,13 +1,14 @@
 -- The line of a row without bars: its fields that have text, with blanks before each.
 use Rattle.std.proofs.Common.{◌≡◌, ℕ, zero, suc, ◌-◌, ◌<◌, ◌≤◌, List, [], ◌∷◌, ◌++◌, length, take, drop, replicate, codes, Bool, true, false, not, ◌==◌, ◌&&◌, ◌||◌, if◌then◌else◌, nat_le, nat_lt, max, refl, sym, ◌∙◌, ap, subst, append_assoc, append-nil, arith}
-use Rattle.std.specs.Prelude.{Option, Some}
+use Rattle.std.specs.Prelude.{None, Option, Some}
 use Prim.Native.Char.{code}
 use Rattle.std.proofs.lemmas.Bool.{eqb-true, le-leb}
 use Rattle.std.proofs.lemmas.Bool.Decides.{nat_tests}
 use Rattle.tbl_columns.specs.declared.grid.Cell.{Cell}
 use Rattle.tbl_drawing.specs.declared.layout.Layout.{Layout}
 use Rattle.tbl_drawing.specs.declared.pen.Pen.{Pen}
-use Rattle.tbl_drawing.specs.Drawing.{begin_of, field_in, field_strokes, first_byte, font_back, font_text, if_sure, text_strokes}
+use Rattle.tbl_blocks.specs.declared.parts.Font.{Font}
+use Rattle.tbl_drawing.specs.Drawing.{begin_of, field_in, field_strokes, first_byte, first_in, font_back, font_if, if_sure, text_strokes}
 use Rattle.tbl_drawing.specs.Pens.{Stroke, To, Release, Guard, Begun, Text, Pass, after_all, bytes_of, furthest, guard, lead, on_from, steps_from, steps_to, to, to_bytes}
 use Rattle.tbl_table.specs.declared.table.Form.{Form}
 use Rattle.tbl_table.specs.declared.table.Form.TheVariants as forms
@@ -113,7 +114,7 @@ text_written begins place cells b bs p h =
 -- ---- a field of text whose width shows
 
 pub record IsPlain (l : Layout) (f : Cell) (text : List ℕ) : Type 0 where
-  pub font : f.key.font ≡ 0
+  pub font : f.key.font ≡ None
   pub form : f.field.form ≡ forms.Text
   pub sure : f.sure ≡ true
   pub text_is : text_of l.grid.table f.field.span ≡ text
@@ -122,8 +123,8 @@ pub record IsPlain (l : Layout) (f : Cell) (text : List ℕ) : Type 0 where
 strokes_are : (l : Layout) (f : Cell) (text : List ℕ) → IsPlain l f text → text_strokes l f ≡ text_at (begin_of l f) (first_byte text) text f.width
 strokes_are l f text h =
     let place = begin_of l f in
-    ap (λ (n : ℕ). To place ∷ Release ∷ Guard (if n == 0 then first_byte (text_of l.grid.table f.field.span) else code "\\") ∷ Begun
-    ∷ Text (font_text n ++ text_of l.grid.table f.field.span ++ font_back n (text_of l.grid.table f.field.span)) ∷ Pass (if_sure f.sure f.width) ∷ []) h.font
+    ap (λ (n : Option Font). To place ∷ Release ∷ Guard (first_in n (text_of l.grid.table f.field.span)) ∷ Begun
+    ∷ Text (font_if n ++ text_of l.grid.table f.field.span ++ font_back n (text_of l.grid.table f.field.span)) ∷ Pass (if_sure f.sure f.width) ∷ []) h.font
     ∙ ap (λ (x : Bool). To place ∷ Release ∷ Guard (first_byte (text_of l.grid.table f.field.span)) ∷ Begun
     ∷ Text (text_of l.grid.table f.field.span ++ []) ∷ Pass (if_sure x f.width) ∷ []) h.sure
     ∙ ap (λ (bs : List ℕ). To place ∷ Release ∷ Guard (first_byte (text_of l.grid.table f.field.span)) ∷ Begun ∷ Text bs ∷ Pass (Some f.width) ∷ []) (append-nil (text_of l.grid.table f.field.span))

@@ -131,7 +131,7 @@ text_at u r c = text_of u.table (field_given u (row u.table r) (given u r c)).sp
 letter_bars : (k : Key) → IsLetter k → k.bars ≡ 0
 letter_bars k (kind, is, same) = ap (λ (x : Key). x.bars) same
 
-letter_font : (k : Key) → IsLetter k → k.font ≡ 0
+letter_font : (k : Key) → IsLetter k → k.font ≡ None
 letter_font k (kind, is, same) = ap (λ (x : Key). x.font) same
 
 -- ---- a table whose columns are measured, its lines, and where its fields begin

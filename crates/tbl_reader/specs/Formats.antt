@@ -9,6 +9,8 @@ use Rattle.tbl_reader.specs.declared.formats.Call.TheVariants.{Nothing, Cell, Ba
 use Rattle.tbl_reader.specs.declared.formats.Called.{Called}
 use Rattle.tbl_reader.specs.Numbers.{is_digit, one_more}
 use Rattle.tbl_reader.specs.Options.{small}
+use Rattle.tbl_blocks.specs.declared.parts.Font.TheVariants as fonts
+use Rattle.tbl_blocks.specs.Parts.{font_of}
 use Rattle.tbl_table.specs.declared.table.Kind.{Kind}
 use Rattle.tbl_table.specs.declared.table.Kind.TheVariants as kinds
 use Rattle.tbl_table.specs.Held.{is_number}
@@ -119,8 +121,8 @@ going_on part call f = returned (record f { part = part }) (only call)
 -- b i e x z t d, u without effect, f w p v m, and a number for the space after it
 abbrev pub modifier : ℕ → Formats → Returned
 modifier b f =
-    if b == code "b" then returned f (only (Font (code "B"))) else
-    if b == code "i" then returned f (only (Font (code "I"))) else
+    if b == code "b" then returned f (only (Font fonts.Bold)) else
+    if b == code "i" then returned f (only (Font fonts.Italic)) else
     if b == code "e" then returned f (only Equal) else
     if b == code "x" then returned f (only Wide) else
     if b == code "z" then returned f (only Zero) else
@@ -159,10 +161,6 @@ cut_short letter ends b f = ended ends b (blaming letter f)
 -- ---- fonts
 
 -- by the last letter of its name
-abbrev pub font_of : ℕ → ℕ
-font_of b = if (b == code "B") || (b == code "3") then code "B" else if (b == code "I") || (b == code "2")
-    then code "I" else code "R"
-
 abbrev pub font : ℕ → Formats → Returned
 font b f = going_on parts.Keys (Font (font_of b)) f
 

@@ -4,6 +4,7 @@ ghost use Rattle.tbl_reader.specs.Formats as specs;
 
 use super::numbers::one_more;
 use super::options::small;
+use tbl_blocks::Font;
 use tbl_table::Kind;
 
 /// The greatest number of columns.
@@ -70,7 +71,7 @@ pub enum Call {
     /// The end of a line, with the bars at it.
     Bars(usize),
     /// The font of a column.
-    Font(u8),
+    Font(Font),
     /// The width of a column begins.
     Width,
     /// The space after a column begins with this digit.
@@ -98,17 +99,6 @@ pub struct Called {
     pub begins: bool,
     /// What is called.
     pub call: Call,
-}
-
-/// The font that a name's last letter stands for.
-fn font_of(letter: u8) -> u8
-    ensures { result ≡ specs.font_of letter }
-{
-    match letter {
-        b'B' | b'3' => b'B',
-        b'I' | b'2' => b'I',
-        _ => b'R',
-    }
 }
 
 /// The kind of a column.
@@ -275,8 +265,8 @@ impl Formats {
         ensures { specs.returned self.new result ≡ specs.modifier key self.old }
     {
         match key {
-            b'b' => Called::only(Call::Font(b'B')),
-            b'i' => Called::only(Call::Font(b'I')),
+            b'b' => Called::only(Call::Font(Font::Bold)),
+            b'i' => Called::only(Call::Font(Font::Italic)),
             b'e' => Called::only(Call::Equal),
             b'x' => Called::only(Call::Wide),
             b'z' => Called::only(Call::Zero),
@@ -329,7 +319,7 @@ impl Formats {
     fn font(&mut self, letter: u8) -> Called
         ensures { specs.returned self.new result ≡ specs.font letter self.old }
     {
-        self.goes_on(Part::Keys, Call::Font(font_of(letter)))
+        self.goes_on(Part::Keys, Call::Font(Font::of(letter)))
     }
 
     /// A byte after `f`.
@@ -340,7 +330,7 @@ impl Formats {
             b'(' => self.goes_on(Part::FontName(b'R'), Call::Nothing),
             b' ' | b'\t' => Called::only(Call::Nothing),
             b'\n' => self.cut_short(b'f', false, byte),
-            _ => self.goes_on(Part::FontMore, Call::Font(font_of(byte))),
+            _ => self.goes_on(Part::FontMore, Call::Font(Font::of(byte))),
         }
     }
 

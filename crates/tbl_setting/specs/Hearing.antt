@@ -34,7 +34,7 @@ abbrev pub call_heard : Call → Table → Table
 call_heard calls.Nothing t = t
 call_heard (calls.Cell kind bars) t = key_added kind bars t
 call_heard (calls.Bars bars) t = line_ended bars t
-call_heard (calls.Font letter) t = font_set letter t
+call_heard (calls.Font font) t = font_set font t
 call_heard calls.Width t = width_begun t
 call_heard (calls.Gap digit) t = gap_begun digit t
 call_heard (calls.Byte b) t = byte_added b t

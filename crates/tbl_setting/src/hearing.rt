@@ -41,7 +41,7 @@ fn tell_call(call: Call, table: &mut Table)
         Call::Nothing => {}
         Call::Cell(kind, bars) => table.add_key(kind, bars),
         Call::Bars(bars) => table.end_line(bars),
-        Call::Font(letter) => table.set_font(letter),
+        Call::Font(font) => table.set_font(font),
         Call::Width => table.begin_width(),
         Call::Gap(digit) => table.begin_gap(digit),
         Call::Byte(byte) => table.add_byte(byte),

@@ -2,6 +2,7 @@
 use Rattle.std.specs.Prelude.{ℕ, ◌+◌, ◌-◌, ◌*◌, min, true, ◌==◌, ◌&&◌, nat_le, nat_lt, [], ◌∷◌, ◌++◌, length, get_or, slice_set, Some, if◌then◌else◌}
 use Prim.Native.Char.{code}
 use Rattle.nr_vectors.specs.Items.{Items}
+use Rattle.tbl_blocks.specs.declared.parts.Font.{Font}
 use Rattle.tbl_table.specs.declared.table.Key.{Key}
 use Rattle.tbl_table.specs.declared.table.Kind.{Kind}
 use Rattle.tbl_table.specs.declared.table.Kind.TheVariants as kinds
@@ -60,8 +61,8 @@ key_added kind bars t =
 
 -- ---- what modifies the last letter
 
-abbrev pub font_set : ℕ → Table → Table
-font_set font t = with_last_key (record (last_key t) { font = font }) t
+abbrev pub font_set : Font → Table → Table
+font_set font t = with_last_key (record (last_key t) { font = Some font }) t
 
 abbrev pub equal_set : Table → Table
 equal_set t = with_last_key (record (last_key t) { equal = true }) t

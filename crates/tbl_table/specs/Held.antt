@@ -40,7 +40,7 @@ usual =
     record {
       kind = kinds.Left;
       bars = 0;
-      font = 0;
+      font = None;
       width = None;
       gap = None;
       equal = false;

@@ -5,6 +5,7 @@ ghost use Rattle.tbl_table.specs.Held as held;
 
 use super::lists::{add_item, item_at, set_item};
 use super::table::{Key, Kind, Line, Open, Span, Stand, Table};
+use tbl_blocks::Font;
 
 /// The greatest number that a gap may have.
 const MOST_GAP: usize = 100_000;
@@ -125,12 +126,15 @@ impl Table {
     }
 
     /// The font of the last key.
-    pub fn set_font(&mut self, font: u8)
+    pub fn set_font(&mut self, font: Font)
         ensures value { self.new ≡ specs.font_set font self.old }
         ensures room { held.emptied self.new ≡ held.emptied self.old }
     {
         let key = self.last_key();
-        self.set_last_key(Key { font, ..key });
+        self.set_last_key(Key {
+            font: Some(font),
+            ..key
+        });
     }
 
     /// The last key has `e`.

@@ -30,7 +30,7 @@ impl Key {
         Key {
             kind: Kind::Left,
             bars: 0,
-            font: 0,
+            font: None,
             width: None,
             gap: None,
             equal: false,

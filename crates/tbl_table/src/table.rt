@@ -7,6 +7,7 @@ ghost use Rattle.tbl_table.specs.Table as specs;
 use super::signs::Signs;
 use nr_vectors::{CountedAlloc, FixedVec};
 use std::alloc::AllocError;
+use tbl_blocks::Font;
 
 /// The greatest number of columns.
 pub const COLUMNS: usize = 64;
@@ -120,8 +121,8 @@ pub struct Key {
     pub kind: Kind,
     /// The bars before it.
     pub bars: usize,
-    /// The letter of its font, or 0.
-    pub font: u8,
+    /// Its font, if it says one.
+    pub font: Option<Font>,
     /// What `w` says.
     pub width: Option<Span>,
     /// The space after it.

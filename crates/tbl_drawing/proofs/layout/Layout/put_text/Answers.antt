@@ -1,5 +1,5 @@
 use Rattle.std.proofs.Common.{ℕ, List, [], ◌∷◌, ◌++◌, ap, refl, sym}
-use Rattle.tbl_drawing.specs.Drawing.{field_text, font_back, font_text}
+use Rattle.tbl_drawing.specs.Drawing.{field_text, font_back, font_if}
 use Rattle.tbl_drawing.specs.Pens.{Bytes, Text}
 use Rattle.tbl_drawing.specs.Tapes.{Draws}
 use Rattle.tbl_table.specs.Held.{text_of}
@@ -11,6 +11,6 @@ returns g c =
     let f = c.args.cell.now in
     let text = field_text c.args.self.now f in
     let p : Draws c.args.out.now c.put_font_back.new.out (Bytes text ∷ []) =
-    draws_same (draws_both (draws_both c.put_font.ensures c.put_unset.ensures) c.put_font_back.ensures)
-    (ap (λ (l : List ℕ). Bytes (font_text f.key.font ++ text_of c.args.self.now.grid.table f.field.span ++ font_back f.key.font l) ∷ []) (sym c.bytes.ensures)) in
+    draws_same (draws_both (draws_both c.put_font_if.ensures c.put_unset.ensures) c.put_font_back.ensures)
+    (ap (λ (l : List ℕ). Bytes (font_if f.key.font ++ text_of c.args.self.now.grid.table f.field.span ++ font_back f.key.font l) ∷ []) (sym c.bytes.ensures)) in
     draws_as (Text text ∷ []) p refl refl
