@@ -59,7 +59,7 @@ room l r = room_if l r (last_below l r)
 
 -- ---- before and after the lines
 
--- macros are reported of a box
+-- the register `*box` says to macros of the page that a table is in a box
 abbrev pub boxed : Layout → List ℕ
 boxed l = text_if (is_boxed l.grid.table) (codes ".nr *box 1\n")
 
