@@ -1,6 +1,8 @@
 mod CellBytes
 mod EmptyLines
 mod Flows
+mod EscapesPut
+mod EscapesRead
 mod FontEscapes
 mod PrefixAtHand
 mod Gliding
@@ -11,10 +13,12 @@ mod LevelText
 mod LevelWords
 mod LineBeginnings
 mod LinesAtHand
+mod MinusEscapes
 mod Obeyed
 mod PlainGaps
 mod PlainNewlines
 mod PlainText
+mod PointEscapes
 mod ReadRuns
 mod RereadCells
 pub mod Running

@@ -1,6 +1,6 @@
 -- Lines of the source that are at hand: the newline that ends one, and the text of the next after it.
 use Prim.Native.Char.{code}
-use Rattle.std.proofs.Common.{◌≡◌, ◌≢◌, ℕ, zero, suc, ◌+◌, ◌-◌, ◌*◌, ◌<◌, ◌≤◌, Bool, true, false, List, [], ◌∷◌, length, drop, Option, refl, sym, ap, ◌∙◌, subst, arith, length-drop}
+use Rattle.std.proofs.Common.{◌≡◌, ◌≢◌, ℕ, zero, suc, ◌+◌, ◌-◌, ◌*◌, ◌<◌, ◌≤◌, Bool, true, false, List, [], ◌∷◌, length, drop, Option, inl, inr, refl, sym, ap, ◌∙◌, subst, arith, length-drop}
 use Rattle.std.specs.Prelude.{◌&&◌, is_none, not, slice_index}
 use Rattle.std.specs.Option.{option_map}
 use Rattle.std.proofs.lemmas.Bool.{and_parts}
@@ -29,6 +29,7 @@ use Rattle.nr_formatter.specs.declared.tasks.Task.{Task}
 use Rattle.nr_formatter.specs.declared.tasks.Task.TheVariants as tasks
 use Rattle.nr_formatter.proofs.PlainText.{ends_word, in_line}
 use Rattle.nr_machine.specs.Holding.{Shape, weight, worth}
+use Rattle.fast_machine.specs.NextEscapes.{BeginsEscape}
 use Rattle.fast_machine.specs.LineBeginnings.{begun_shape}
 use Rattle.fast_machine.specs.Running.{HasNext, Longest, LongestWords, Makes, PutsText, Saves, taken_shape, unburst}
 use Rattle.fast_machine.proofs.LineBeginnings.{makes_begun}
@@ -194,16 +195,18 @@ words_after t n bs f longest =
       blank = λ below line blank. longest.blank (omega (arith, left, below)) line (sym same ∙ blank);
     }
 
--- after the words of a line comes no plain newline, and no font escape
+-- after the words of a line comes no plain newline, no font escape, and no other that is put at once
 pub longest_line : (bs : List ℕ) (t m : ℕ) (f : Formatter) → t ≤ m → m ≤ 5 * t → LongestWords bs t f → (is_at_text f ≡ true → is_in_line f ≡ true)
-    → (t < length bs → slice_index bs t ≡ code "\n" → IsNewline f → ⊥) → (is_in_line f ≡ true → BeginsFont (is_in_text f.reader.half) (drop t bs) → ⊥) → Longest bs t m f
-longest_line bs t m f least most words line newline font = record {
+    → (t < length bs → slice_index bs t ≡ code "\n" → IsNewline f → ⊥) → (is_in_line f ≡ true → BeginsFont (is_in_text f.reader.half) (drop t bs) → ⊥)
+    → (is_in_line f ≡ true → BeginsEscape (drop t bs) f → ⊥) → Longest bs t m f
+longest_line bs t m f least most words line newline font escape = record {
   least = least;
   most = most;
   words = words;
   newline = newline;
   begins = λ at out begins. let wrong : true ≡ false = sym (line at) ∙ out in cc;
   font = λ at plain begins. font (line at) begins;
+  escape = escape;
 }
 
 -- no line goes on, and none begins
@@ -216,6 +219,7 @@ longest_out bs t m f least most out begins font = record {
   newline = λ below is newline. out newline.line;
   begins = λ at no. begins at;
   font = font;
+  escape = λ line. absurd (out line);
 }
 
 -- where no `\` comes next no font escape does
@@ -225,6 +229,19 @@ no_font t bs in_line other begins =
     let some = begins.some in
     let same : t + 0 ≡ t = omega arith in
     other (omega (arith, left, some)) (ap (slice_index bs) (sym same) ∙ sym (get_or-drop t bs 0 0) ∙ begins.backslash)
+
+-- nor another
+pub no_escape : (t : ℕ) (bs : List ℕ) (f : Formatter) → (t < length bs → slice_index bs t ≡ code "\\" → ⊥) → BeginsEscape (drop t bs) f → ⊥
+no_escape t bs f other begins = elim begins [
+  | inl point ↦ by (omega (arith, point.some)) point.backslash
+  | inr minus ↦ by (omega (arith, minus.0.some)) minus.0.backslash
+]
+  where
+    by : 0 < length (drop t bs) → slice_index (drop t bs) 0 ≡ code "\\" → ⊥
+    by some backslash =
+        let left : length (drop t bs) ≡ length bs - t = length-drop t bs in
+        let same : t + 0 ≡ t = omega arith in
+        other (omega (arith, left, some)) (ap (slice_index bs) (sym same) ∙ sym (get_or-drop t bs 0 0) ∙ backslash)
 
 idle_task : (e : Event) (t : Task) → reads_next e t ≡ true → t ≡ tasks.Read
 idle_task events.Nothing tasks.Read is = refl

@@ -402,4 +402,5 @@ longest_taken bs t m f h = record {
   newline = λ below is line. h.newline below is (record { line = line.line; plain = line.plain; joint = line.joint; trap = line.trap; underlined = line.underlined; within = line.within });
   begins = λ at out begins. h.begins at out (record { some = begins.some; plain = begins.plain; control = begins.control; room = begins.room });
   font = h.font;
+  escape = h.escape;
 }

@@ -1,5 +1,6 @@
 pub mod EmptyLines
-pub mod Fonts
+pub mod Escapes
 pub mod LineBeginnings
+pub mod NextEscapes
 pub mod Rereading
 pub mod Running

@@ -25,6 +25,7 @@ use Rattle.nr_store.specs.Windows.{rest_of, run_left}
 use Rattle.nr_machine.specs.State.{State}
 use Rattle.nr_machine.specs.Holding.{Shape, at, Stands, Made, weight, worth}
 use Rattle.nr_machine.specs.Limits.{limits_of}
+use Rattle.fast_machine.specs.NextEscapes.{BeginsEscape}
 
 -- n moves were made, at whatever state the engine stood, and nothing went out
 pub record Makes (n : ℕ) (e f : Shape) (supply supply' : Option Supply) : Type 0 where
@@ -151,8 +152,8 @@ pub record LongestOfLevels (v : StoredOf Resume) (r : Reader) (f : Formatter) : 
   pub words : LongestWords bytes taken f
   pub newline : taken ≡ length bytes → gathered.ends ≡ true → IsNewline f → ⊥
 
--- As many of these bytes were put as could be, one to five moves each: what comes next is none of a line's words, no newline that
--- does nothing but end its line, at a line's beginning no text that is put, and no font escape with its name.
+-- As many of these bytes were put as could be, one to five moves each: what comes next is none of a line's words, no escape that is put
+-- at once, no newline that does nothing but end its line, at a line's beginning no text that is put, and no font escape with its name.
 pub record Longest (bs : List ℕ) (taken moves : ℕ) (f : Formatter) : Type 0 where
   pub least : taken ≤ moves
   pub most : moves ≤ 5 * taken
@@ -161,3 +162,4 @@ pub record Longest (bs : List ℕ) (taken moves : ℕ) (f : Formatter) : Type 0 
   pub begins : is_at_text f ≡ true → is_in_line f ≡ false → BeginsText (drop taken bs) f → ⊥
   pub font : is_at_text f ≡ true → interpolates f.reader.half ≡ true
       → BeginsFont (is_in_text f.reader.half) (drop taken bs) → ⊥
+  pub escape : is_in_line f ≡ true → BeginsEscape (drop taken bs) f → ⊥

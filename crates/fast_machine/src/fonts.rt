@@ -6,7 +6,7 @@ ghost use Rattle.nr_reading.specs.Many.LineBeginnings.{IsBeforeLine};
 ghost use Rattle.fast_input.specs.Fonts.{BeginsFont};
 ghost use Rattle.nr_formatter.specs.Many.LineBeginnings.{is_at_text};
 ghost use Rattle.nr_formatter.specs.Many.Runs.{is_in_line};
-ghost use Rattle.fast_machine.specs.Fonts.{PutsFont};
+ghost use Rattle.fast_machine.specs.Escapes.{PutsEscape};
 
 use nr_formatter::formatter::Formatter;
 
@@ -25,9 +25,9 @@ fn begins_font(bytes: &[u8]) -> bool
 fn change_font(formatter: &mut Formatter, bytes: &[u8]) -> usize
     requires text { is_at_text formatter.old ≡ true }
     ensures in_line { is_in_line formatter.old ≡ true
-        → PutsFont bytes.now result (result + 1) formatter.old formatter.new }
+        → PutsEscape bytes.now result (result + 1) formatter.old formatter.new }
     ensures at_start { IsBeforeLine formatter.old.reader.half
-        → PutsFont bytes.now result (result + 2) formatter.old formatter.new }
+        → PutsEscape bytes.now result (result + 2) formatter.old formatter.new }
     ensures longest { result ≡ 0 → interpolates formatter.old.reader.half ≡ true
         → BeginsFont (is_in_text formatter.old.reader.half) bytes.now → ⊥ }
 {
@@ -43,7 +43,7 @@ fn change_font(formatter: &mut Formatter, bytes: &[u8]) -> usize
 /// As `change_font`, in the midst of a text line.
 #[inline(always)]
 pub(crate) fn put_font(formatter: &mut Formatter, bytes: &[u8]) -> usize
-    ensures puts { PutsFont bytes.now result (result + 1) formatter.old formatter.new }
+    ensures puts { PutsEscape bytes.now result (result + 1) formatter.old formatter.new }
     ensures longest { result ≡ 0 → is_in_line formatter.old ≡ true
         → BeginsFont (is_in_text formatter.old.reader.half) bytes.now → ⊥ }
 {
@@ -58,7 +58,7 @@ pub(crate) fn put_font(formatter: &mut Formatter, bytes: &[u8]) -> usize
 pub(crate) fn begin_font(formatter: &mut Formatter, bytes: &[u8]) -> usize
     requires text { is_at_text formatter.old ≡ true }
     requires start { IsBeforeLine formatter.old.reader.half }
-    ensures puts { PutsFont bytes.now result (result + 2) formatter.old formatter.new }
+    ensures puts { PutsEscape bytes.now result (result + 2) formatter.old formatter.new }
     ensures longest { result ≡ 0 → interpolates formatter.old.reader.half ≡ true
         → BeginsFont (is_in_text formatter.old.reader.half) bytes.now → ⊥ }
 {

@@ -2,10 +2,11 @@
 //! that so many steps of the meaning were made.
 //!
 //! It stands on nr_machine, fast_input, nr_formatter and the crates below them. To read: `reading`, `fonts`,
-//! `plain_text`, `level_text`, `rereading`, `empty_lines`, `obeying`.
+//! `escapes`, `plain_text`, `level_text`, `rereading`, `empty_lines`, `obeying`.
 #![tactic(auto)]
 
 mod empty_lines;
+mod escapes;
 mod fonts;
 mod level_text;
 mod obeying;

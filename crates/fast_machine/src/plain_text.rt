@@ -8,7 +8,8 @@ ghost use Rattle.fast_machine.specs.LineBeginnings.{may_take, Begins, PutsMost};
 ghost use Rattle.fast_machine.specs.Running.{HasNext, MakesReading, Longest, LongestWords, PutsOfFlow, PutsText};
 
 use crate::empty_lines::read_lines;
-use crate::fonts::{begin_font, put_font};
+use crate::escapes::put_escape;
+use crate::fonts::begin_font;
 use crate::level_text::put_level_text;
 use crate::obeying::answer_after;
 use crate::reading::reads_next;
@@ -76,12 +77,12 @@ pub(crate) fn put_line_words(formatter: &mut Formatter, bytes: &[u8]) -> Words
     }
 }
 
-/// Puts the text that these bytes begin with, in a text line that has begun: its words and font escapes, and after the newline that ends
-/// it and does nothing else, where it begins with a byte that is put or with a font escape, the next line's.
+/// Puts the text that these bytes begin with, in a text line that has begun: its words, minuses, places to cut and font escapes, and after
+/// the newline that ends it and does nothing else, where it begins with a byte that is put or with a font escape, the next line's.
 ///
 /// Proved: Of the text of the source that is at hand as much is put in one call as can be: what comes next is no
-/// word, no newline that only ends its line, no beginning of text that is put, and no font escape that has its name,
-/// of one byte or in the midst of a line of two.
+/// word, no minus and no place to cut one, no newline that only ends its line, no beginning of text that is put, and no
+/// font escape that has its name, of one byte or in the midst of a line of two.
 #[inline(always)]
 fn put_words(formatter: &mut Formatter, bytes: &[u8]) -> Words
     requires line { is_in_line formatter.old ≡ true }
@@ -99,12 +100,12 @@ fn put_words(formatter: &mut Formatter, bytes: &[u8]) -> Words
             return Words { taken, moves };
         }
         if bytes[taken] != b'\n' {
-            let font = put_font(formatter, &bytes[taken..]);
-            if font == 0 {
+            let escape = put_escape(formatter, &bytes[taken..]);
+            if escape == 0 {
                 return Words { taken, moves };
             }
-            taken += font;
-            moves += font + 1;
+            taken += escape;
+            moves += escape + 1;
             continue;
         }
         match formatter.put_newline() {

@@ -9,10 +9,11 @@ use Rattle.fast_input.specs.Fonts.{BeginsFont}
 use Rattle.nr_formatter.specs.Many.LineBeginnings.{BeginsText, is_at_text}
 use Rattle.nr_formatter.specs.Many.Runs.{is_in_line}
 use Rattle.nr_formatter.specs.declared.formatter.Formatter.{Formatter}
+use Rattle.fast_machine.specs.NextEscapes.{BeginsEscape}
 use Rattle.fast_machine.specs.Running.{Longest, LongestWords, PutsText}
 use Rattle.fast_machine.proofs.LineBeginnings.{begun_line}
 use Rattle.fast_machine.proofs.TextAtHand.{puts_on, rest_of}
-use Rattle.fast_machine.proofs.LinesAtHand.{before_out, flows_away, flows_out, goes_begun, goes_first, goes_put, line_at_text, line_before, line_ends, line_flows, longest_line, longest_out, no_font, takes_longest, words_after}
+use Rattle.fast_machine.proofs.LinesAtHand.{before_out, flows_away, flows_out, goes_begun, goes_first, goes_put, line_at_text, line_before, line_ends, line_flows, longest_line, longest_out, no_escape, no_font, takes_longest, words_after}
 use Rattle.fast_machine.proofs.plain_text.put_words.Goals.{After-put_line_words-line}
 use Rattle.fast_machine.proofs.plain_text.put_words.Goals as goal
 
@@ -59,6 +60,7 @@ returns-then-taken-bytes-clause-longest c =
     let h = (goal.at.returns-then-taken-bytes-clause-longest c).After-put_line_words-line in
     longest_line (all h) (taken h) (moves h) (afterwards h) (puts h).least (puts h).most (words h) c.put_line_words-line.ensures.line
     (λ below is newline. omega (arith, below, c.if-taken-bytes.true)) (λ line. no_font (taken h) (all h) (is_in_text (afterwards h).reader.half) (λ below is. omega (arith, below, c.if-taken-bytes.true)))
+    (λ line. no_escape (taken h) (all h) (afterwards h) (λ below is. omega (arith, below, c.if-taken-bytes.true)))
 
 pub returns-in-Left-clause-puts : goal.returns-in-Left-clause-puts
 returns-in-Left-clause-puts c =
@@ -70,7 +72,8 @@ returns-in-Left-clause-longest c =
     let h = (goal.at.returns-in-Left-clause-longest c).After-put_line_words-line in
     subst (λ (x : Formatter). Longest (all h) (taken h) (moves h) x) (sym c.in-Left.ensures.is)
     (longest_line (all h) (taken h) (moves h) (afterwards h) (puts h).least (puts h).most (words h) c.put_line_words-line.ensures.line (λ below is. c.in-Left.ensures.left refl)
-    (λ line. no_font (taken h) (all h) (is_in_text (afterwards h).reader.half) (λ below is. omega (arith, is, c.if-bytes-taken-ne10.false))))
+    (λ line. no_font (taken h) (all h) (is_in_text (afterwards h).reader.half) (λ below is. omega (arith, is, c.if-bytes-taken-ne10.false)))
+    (λ line. no_escape (taken h) (all h) (afterwards h) (λ below is. omega (arith, is, c.if-bytes-taken-ne10.false))))
 
 pub returns-in-Flows-clause-puts : goal.returns-in-Flows-clause-puts
 returns-in-Flows-clause-puts c =
@@ -100,54 +103,55 @@ begin_font-font-requires-clause-start c =
     let reads = c.in-Reads.ensures.is in
     subst (λ (x : Formatter). IsBeforeLine x.reader.half) (sym c.if-not-begin_text.ensures.1) (line_before (afterwards h) c.put_newline.new.self reads.0 reads.2)
 
-pub returns-then-font-eq0-clause-puts : goal.returns-then-font-eq0-clause-puts
-returns-then-font-eq0-clause-puts c =
-    let h = (goal.at.returns-then-font-eq0-clause-puts c).After-put_line_words-line in
-    let none : c.put_font-font.result ≡ 0 = omega (arith, c.if-font-eq0.true) in
-    subst (λ (x : Formatter). PutsText (all h) (taken h) (moves h) c.args.formatter.now x) (sym (c.put_font-font.ensures.puts.left none)) (puts h)
+pub returns-then-escape-eq0-clause-puts : goal.returns-then-escape-eq0-clause-puts
+returns-then-escape-eq0-clause-puts c =
+    let h = (goal.at.returns-then-escape-eq0-clause-puts c).After-put_line_words-line in
+    let none : c.put_escape-escape.result ≡ 0 = omega (arith, c.if-escape-eq0.true) in
+    subst (λ (x : Formatter). PutsText (all h) (taken h) (moves h) c.args.formatter.now x) (sym (c.put_escape-escape.ensures.puts.left none)) (puts h)
 
-pub returns-then-font-eq0-clause-longest : goal.returns-then-font-eq0-clause-longest
-returns-then-font-eq0-clause-longest c =
-    let h = (goal.at.returns-then-font-eq0-clause-longest c).After-put_line_words-line in
-    let none : c.put_font-font.result ≡ 0 = omega (arith, c.if-font-eq0.true) in
-    subst (λ (x : Formatter). Longest (all h) (taken h) (moves h) x) (sym (c.put_font-font.ensures.puts.left none))
+pub returns-then-escape-eq0-clause-longest : goal.returns-then-escape-eq0-clause-longest
+returns-then-escape-eq0-clause-longest c =
+    let h = (goal.at.returns-then-escape-eq0-clause-longest c).After-put_line_words-line in
+    let none : c.put_escape-escape.result ≡ 0 = omega (arith, c.if-escape-eq0.true) in
+    subst (λ (x : Formatter). Longest (all h) (taken h) (moves h) x) (sym (c.put_escape-escape.ensures.puts.left none))
     (longest_line (all h) (taken h) (moves h) (afterwards h) (puts h).least (puts h).most (words h) c.put_line_words-line.ensures.line
     (λ below newline. omega (arith, newline, c.if-bytes-taken-ne10.true))
-    (λ line begins. c.put_font-font.ensures.longest none line (subst (BeginsFont (is_in_text (afterwards h).reader.half)) (sym (take_rest (all h) (taken h))) begins)))
+    (λ line begins. c.put_escape-escape.ensures.font none line (subst (BeginsFont (is_in_text (afterwards h).reader.half)) (sym (take_rest (all h) (taken h))) begins))
+    (λ line begins. c.put_escape-escape.ensures.longest none line (subst (λ xs. BeginsEscape xs (afterwards h)) (sym (take_rest (all h) (taken h))) begins)))
 
 pub loop-taken-preserved-then-bytes-taken-ne10 : goal.loop-taken-preserved-then-bytes-taken-ne10
 loop-taken-preserved-then-bytes-taken-ne10 c =
     let h = (goal.at.loop-taken-preserved-then-bytes-taken-ne10 c).After-put_line_words-line in
-    let font = c.put_font-font.result in
-    let new = c.put_font-font.new.formatter in
+    let escape = c.put_escape-escape.result in
+    let new = c.put_escape-escape.new.formatter in
     let f = c.args.formatter.now in
-    let some : 0 < font = omega (arith, c.if-font-eq0.false) in
-    let put : PutsText (drop (taken h) (all h)) font (font + 1) (afterwards h) new = subst (λ xs. PutsText xs font (font + 1) (afterwards h) new) (take_rest (all h) (taken h)) (c.put_font-font.ensures.puts.puts some) in
-    let both = puts_on (taken h) (moves h) font (font + 1) (all h) f (afterwards h) new (puts h) put in
+    let some : 0 < escape = omega (arith, c.if-escape-eq0.false) in
+    let put : PutsText (drop (taken h) (all h)) escape (escape + 1) (afterwards h) new = subst (λ xs. PutsText xs escape (escape + 1) (afterwards h) new) (take_rest (all h) (taken h)) (c.put_escape-escape.ensures.puts.puts some) in
+    let both = puts_on (taken h) (moves h) escape (escape + 1) (all h) f (afterwards h) new (puts h) put in
     record {
-      line = c.put_font-font.ensures.puts.line some;
+      line = c.put_escape-escape.ensures.puts.line some;
       prefix = both.prefix;
       few = both.most;
-      goes_on = goes_put (taken h + font) (moves h + (font + 1)) (all h) f new both;
+      goes_on = goes_put (taken h + escape) (moves h + (escape + 1)) (all h) f new both;
     }
 
-pub returns-then-font-eq0-2-clause-puts : goal.returns-then-font-eq0-2-clause-puts
-returns-then-font-eq0-2-clause-puts c =
-    let h = (goal.at.returns-then-font-eq0-2-clause-puts c).After-put_line_words-line in
+pub returns-then-font-eq0-clause-puts : goal.returns-then-font-eq0-clause-puts
+returns-then-font-eq0-clause-puts c =
+    let h = (goal.at.returns-then-font-eq0-clause-puts c).After-put_line_words-line in
     let reads = c.in-Reads.ensures.is in
     let below : taken h < length (all h) = omega (arith, (puts h).prefix, c.if-taken-bytes.false) in
     let newline : slice_index (all h) (taken h) ≡ code "\n" = omega (arith, c.if-bytes-taken-ne10.false) in
-    let none : c.begin_font-font.result ≡ 0 = omega (arith, c.if-font-eq0-2.true) in
+    let none : c.begin_font-font.result ≡ 0 = omega (arith, c.if-font-eq0.true) in
     subst (λ (x : Formatter). PutsText (all h) (taken h + 1) (moves h + 5) c.args.formatter.now x) (sym (c.begin_font-font.ensures.puts.left none ∙ c.if-not-begin_text.ensures.1))
     (line_ends (taken h) (moves h) (all h) c.args.formatter.now (afterwards h) (puts h) below newline reads.0 c.put_newline.new.self reads.1 reads.2)
 
-pub returns-then-font-eq0-2-clause-longest : goal.returns-then-font-eq0-2-clause-longest
-returns-then-font-eq0-2-clause-longest c =
-    let h = (goal.at.returns-then-font-eq0-2-clause-longest c).After-put_line_words-line in
+pub returns-then-font-eq0-clause-longest : goal.returns-then-font-eq0-clause-longest
+returns-then-font-eq0-clause-longest c =
+    let h = (goal.at.returns-then-font-eq0-clause-longest c).After-put_line_words-line in
     let reads = c.in-Reads.ensures.is in
     let g = c.put_newline.new.self in
     let text = c.if-not-begin_text.ensures in
-    let none : c.begin_font-font.result ≡ 0 = omega (arith, c.if-font-eq0-2.true) in
+    let none : c.begin_font-font.result ≡ 0 = omega (arith, c.if-font-eq0.true) in
     subst (λ (x : Formatter). Longest (all h) (taken h + 1) (moves h + 5) x) (sym (c.begin_font-font.ensures.puts.left none ∙ text.1))
     (longest_out (all h) (taken h + 1) (moves h + 5) g (omega (arith, (puts h).least)) (omega (arith, (puts h).most)) (before_out g (line_before (afterwards h) g reads.0 reads.2))
     (λ at begins. text.0 (subst (λ xs. BeginsText xs g) (sym (take_rest (all h) (taken h + 1))) begins))
@@ -166,7 +170,7 @@ loop-taken-preserved-then-not-begin_text c =
     let below : taken h < length (all h) = omega (arith, (puts h).prefix, c.if-taken-bytes.false) in
     let newline : slice_index (all h) (taken h) ≡ code "\n" = omega (arith, c.if-bytes-taken-ne10.false) in
     let ends = line_ends (taken h) (moves h) (all h) f (afterwards h) (puts h) below newline reads.0 g reads.1 reads.2 in
-    let some : 0 < font = omega (arith, c.if-font-eq0-2.false) in
+    let some : 0 < font = omega (arith, c.if-font-eq0.false) in
     let put : PutsText (drop (taken h + 1) (all h)) font (font + 2) g new =
     subst (λ (x : Formatter). PutsText (drop (taken h + 1) (all h)) font (font + 2) x new) c.if-not-begin_text.ensures.1
     (subst (λ xs. PutsText xs font (font + 2) c.begin_text.new.self new) (take_rest (all h) (taken h + 1)) (c.begin_font-font.ensures.puts.puts some)) in
