@@ -198,7 +198,7 @@ item p =
 
 -- two blanks stand between a tag and its text, or the tag stands alone; that of `-hang` goes on
 abbrev pub tag_ends_of : Kind → Block → Act
-tag_ends_of kinds.Tag b = acts.TagEnds (tag_width b - 2)
+tag_ends_of kinds.Tag b = acts.TagEnds (tag_width b - 1)
 tag_ends_of kinds.Hang b = acts.HangEnds (tag_width b - 2)
 tag_ends_of kind b = acts.Fresh
 

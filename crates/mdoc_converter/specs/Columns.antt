@@ -37,12 +37,13 @@ next_cell p = at_most 99 p.lay.cell + 1
 abbrev pub step_to : ℕ → Block → List ℕ
 step_to cell b = codes "\\n[%" ++ digits cell ++ codes "]u+" ++ digits (gap b.columns) ++ codes "n"
 
--- the next cell stands further to the right, beside the last line of the one before if that leaves a blank
+-- The next cell stands further to the right, beside the last line of the one before if that leaves a blank and the cell has a line.
+-- The first comparison gives 1 or 0, and no place is above 0.
 abbrev pub put_step : Page → List ℕ
 put_step p =
     let step = step_to (next_cell p) p.block in
-    codes ".in +" ++ step ++ codes "\n.if \\n(nl>\\n(%tu&(\\n(.nu<(" ++ step
-    ++ codes ")) \\{\\\n.sp -1\n\\&\\c\n.\\}\n.nr %t \\n(nl\n"
+    codes ".in +" ++ step ++ codes "\n.if " ++ step
+    ++ codes ">\\n(.nu*\\n(nl>\\n(%tu \\{\\\n.sp -1\n\\&\\c\n.\\}\n.nr %t \\n(nl\n"
 
 -- one after the last column's joins what is before
 abbrev pub has_column : Page → Bool

@@ -169,7 +169,7 @@ pub(crate) enum Act {
     Fresh,
     /// A tag begins, by the width of tags: what goes on over lines hangs by that.
     Tag(u16),
-    /// A tag is whole: one wider than so many ens, or of several lines, stands alone.
+    /// A tag is whole: text stands after one of one line that is narrower than so many ens.
     TagEnds(u16),
     /// A tag is whole, after which text goes on: one wider than so many ens has it a blank further to the right.
     HangEnds(u16),

@@ -289,7 +289,7 @@ impl Page {
         ensures { result ≡ specs.tag_ends self.now }
     {
         match self.block.kind {
-            Kind::Tag => Act::TagEnds(tag_width(self.block) - 2),
+            Kind::Tag => Act::TagEnds(tag_width(self.block) - 1),
             Kind::Hang => Act::HangEnds(tag_width(self.block) - 2),
             _ => Act::Fresh,
         }

@@ -98,9 +98,9 @@ impl Page {
     {
         out.extend(b".in +");
         put_step_to(cell, self.block, out);
-        out.extend(b"\n.if \\n(nl>\\n(%tu&(\\n(.nu<(");
+        out.extend(b"\n.if ");
         put_step_to(cell, self.block, out);
-        out.extend(b")) \\{\\\n.sp -1\n\\&\\c\n.\\}\n.nr %t \\n(nl\n");
+        out.extend(b">\\n(.nu*\\n(nl>\\n(%tu \\{\\\n.sp -1\n\\&\\c\n.\\}\n.nr %t \\n(nl\n");
     }
 
     /// A cell ends, and another begins: one after the last column's joins what is before.

@@ -71,7 +71,7 @@ impl Page {
         self.lay.tag = false;
     }
 
-    /// A tag is whole: text stands after it where it is one line, and no wider than this.
+    /// A tag is whole: text stands after it where it is one line, and narrower than this.
     pub(crate) fn end_tag(&mut self, width: u16, out: &mut SliceVec<'_, u8>)
         requires { length out.old.items + 128 ≤ out.old.capacity }
         ensures page { self.new ≡ (specs.end_tag width self.old).page }
@@ -80,9 +80,9 @@ impl Page {
         ensures room { out.new.capacity ≡ out.old.capacity }
     {
         self.freshen(out);
-        out.extend(b".br\n.if \\n(nl-\\n(%tu=1v&(\\n(.nu<=");
+        out.extend(b".br\n.if \\n(nl-\\n(%tu=1v*");
         put_number(width, out);
-        out.extend(b"n) \\{\\\n.sp -1\n\\&\\c\n.\\}\n");
+        out.extend(b"n>\\n(.nu \\{\\\n.sp -1\n\\&\\c\n.\\}\n");
     }
 
     /// A tag is whole, and text goes on after it: where it is wider than this by more than one, a blank after its last line.

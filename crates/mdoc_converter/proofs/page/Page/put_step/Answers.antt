@@ -13,7 +13,7 @@ one-after-other a b s d e x y z v w f g h i j =
 pub returns-clause-items : goal.returns-clause-items
 returns-clause-items c =
     one-after-other c.args.out.now.items (codes ".in +") (step_to (next_cell c.args.self.now) c.args.self.now.block)
-    (codes "\n.if \\n(nl>\\n(%tu&(\\n(.nu<(") (codes ")) \\{\\\n.sp -1\n\\&\\c\n.\\}\n.nr %t \\n(nl\n")
+    (codes "\n.if ") (codes ">\\n(.nu*\\n(nl>\\n(%tu \\{\\\n.sp -1\n\\&\\c\n.\\}\n.nr %t \\n(nl\n")
     c.extend.new.self.items c.put_step_to.new.out.items c.extend-2.new.self.items c.put_step_to-2.new.out.items
     c.extend-3.new.self.items
     c.extend.ensures.items
