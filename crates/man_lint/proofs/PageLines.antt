@@ -5,7 +5,7 @@ use Rattle.std.proofs.lemmas.List.Elements.{All-append, All-cons, All-drop, All-
 use Rattle.std.specs.List.{All, insert, remove}
 use Rattle.std.specs.Str.{bytes_eq}
 use Prim.Native.Char.{code}
-use Rattle.man_lint.specs.Blocks.{place_of}
+use Rattle.filters_complaints.specs.Blocks.{place_of}
 use Rattle.man_lint.specs.Escapes as escapes
 use Rattle.man_lint.specs.Laws.{ComplaintsHaveLines, IsIn, lines_in, newlines}
 use Rattle.man_lint.specs.Lines as lines
@@ -15,7 +15,7 @@ use Rattle.filters_complaints.specs.Complaints.{with_complaint}
 use Rattle.man_lint.specs.Reporting as reporting
 use Rattle.man_lint.specs.Reporting.{AllReported}
 use Rattle.man_lint.specs.Watching.{Page, acted, all_heard, block_called, byte_read, called, counted, defined_until, ended_at, ended_by, ends_all, finished, first_page, gone, heard, ignored, in_definition, is_empty, judged, line_ended, macro_called, macro_in, name_given, not_ended, opened, read_byte, read_escape, reported, requested, string_judged, taken, titled_at_end, unknown, with_blocks, with_macro, with_title}
-use Rattle.man_lint.specs.declared.blocks.OpenBlock.{OpenBlock}
+use Rattle.filters_complaints.specs.declared.blocks.OpenBlock.{OpenBlock}
 use Rattle.man_lint.specs.declared.calls.Call.{Call}
 use Rattle.man_lint.specs.declared.escapes.Found.{Found}
 use Rattle.man_lint.specs.declared.escapes.Found.TheVariants as founds
@@ -103,7 +103,7 @@ removed n blocks place h =
 
 opened-keeps : (n : ℕ) (name : List ℕ) (p : Page) → Within n p → Within n (opened name p)
 opened-keeps n name p h =
-    let block : OpenBlock = record { name = name; line = p.place.line } in
+    let block : OpenBlock = record { name = name; line = p.place.line; columns = false } in
     either n (length p.blocks.items == p.blocks.capacity) (reported kinds.TooMany name p) (with_blocks (insert p.blocks.items 0 block) p)
     (reported-keeps n kinds.TooMany name p h)
     (with_blocks-keeps n (insert p.blocks.items 0 block) p (inserted n p.blocks.items block h.1.blocks_in h.0) h)

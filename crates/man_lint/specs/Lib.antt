@@ -1,4 +1,3 @@
-pub mod Blocks
 pub mod Calls
 pub mod Complaints
 pub mod Escapes

@@ -1,7 +1,7 @@
 -- What is reported of a page.
 use Rattle.std.specs.Prelude.{ℕ, List, [], ◌∷◌}
 use Rattle.filters_complaints.specs.Complaints as complaints
-use Rattle.man_lint.specs.declared.blocks.OpenBlock.{OpenBlock}
+use Rattle.filters_complaints.specs.declared.blocks.OpenBlock.{OpenBlock}
 use Rattle.man_lint.specs.declared.reporting.Complaint.{Complaint}
 use Rattle.man_lint.specs.declared.reporting.Kind.{Kind}
 use Rattle.man_lint.specs.declared.reporting.Kind.TheVariants.{NotEnded}

@@ -5,7 +5,7 @@ use Rattle.std.specs.List.{insert, remove}
 use Rattle.std.specs.Str.{bytes_eq}
 use Prim.Native.Char.{code}
 use Rattle.nr_vectors.specs.Items.{Items}
-use Rattle.man_lint.specs.Blocks.{place_of}
+use Rattle.filters_complaints.specs.Blocks.{place_of}
 use Rattle.man_lint.specs.Calls.{no_call}
 use Rattle.man_lint.specs.Escapes as escapes
 use Rattle.man_lint.specs.Lines as lines
@@ -14,7 +14,7 @@ use Rattle.man_lint.specs.OwnNames.{AllNames, given, has, no_names}
 use Rattle.filters_complaints.specs.Complaints.{none_reported}
 use Rattle.man_lint.specs.Reporting as reporting
 use Rattle.man_lint.specs.Reporting.{AllReported}
-use Rattle.man_lint.specs.declared.blocks.OpenBlock.{OpenBlock}
+use Rattle.filters_complaints.specs.declared.blocks.OpenBlock.{OpenBlock}
 use Rattle.man_lint.specs.declared.calls.Call.{Call}
 use Rattle.man_lint.specs.declared.escapes.Escaping.{Escaping}
 use Rattle.man_lint.specs.declared.escapes.Found.{Found}
@@ -66,7 +66,7 @@ with_blocks blocks p = record p { blocks = record p.blocks { items = blocks } }
 abbrev pub opened : List ℕ → Page → Page
 opened name p =
     if length p.blocks.items == p.blocks.capacity then reported kinds.TooMany name p else
-    with_blocks (insert p.blocks.items 0 (record { name = name; line = p.place.line })) p
+    with_blocks (insert p.blocks.items 0 (record { name = name; line = p.place.line; columns = false })) p
 
 abbrev pub ended_at : Option ℕ → List ℕ → Page → Page
 ended_at None name p = reported kinds.NotOpen name p

@@ -3,11 +3,10 @@ ghost use Rattle.std.specs.Prelude.{◌≡◌, IfErr, IfOk};
 ghost use Rattle.filters.specs.Endings.{Tells};
 ghost use Rattle.man_lint.specs.Complaints.{faults_of, lines_of};
 
-use super::blocks::{MOST_OPEN, OpenBlock};
 use super::own_names::MOST_NAMES;
 use super::reporting::room_for;
 use super::watching::Watch;
-use filters_complaints::{MOST_COMPLAINTS, tell_complaints};
+use filters_complaints::{MOST_COMPLAINTS, MOST_OPEN, OpenBlock, tell_complaints};
 use nr_units::Name;
 use nr_units::sink::Sink;
 use std::alloc::{AllocError, Global};

@@ -2,8 +2,7 @@
 ghost use Rattle.std.specs.Prelude.{◌≡◌, IfOk, length};
 ghost use Rattle.man_lint.specs.Reporting as specs;
 
-use super::blocks::OpenBlock;
-use filters_complaints::Complaints;
+use filters_complaints::{Complaints, OpenBlock};
 use nr_units::Name;
 use std::alloc::{AllocError, Global};
 

@@ -2,7 +2,6 @@
 ghost use Rattle.std.specs.Prelude.{◌≡◌, length};
 ghost use Rattle.man_lint.specs.Watching as specs;
 
-use super::blocks::{OpenBlock, place_of};
 use super::calls::Call;
 use super::escapes::{Escaping, Found};
 use super::lines::Half;
@@ -12,7 +11,7 @@ use super::names::{
 };
 use super::own_names::OwnNames;
 use super::reporting::{Complaint, Kind, report_not_ended};
-use filters_complaints::Complaints;
+use filters_complaints::{Complaints, OpenBlock, place_of};
 use nr_units::Name;
 use nr_vectors::slice_vec::SliceVec;
 use std::marker::Model;
@@ -367,7 +366,15 @@ impl<'a> Watch<'a> {
             self.report(Kind::TooMany, name);
         } else {
             let line = self.place.line;
-            self.blocks.insert(0, OpenBlock { name, line });
+            let columns = false;
+            self.blocks.insert(
+                0,
+                OpenBlock {
+                    name,
+                    line,
+                    columns,
+                },
+            );
         }
     }
 

@@ -1,4 +1,3 @@
-pub mod Blocks
 pub mod Complaints
 pub mod Converting
 pub mod Lines

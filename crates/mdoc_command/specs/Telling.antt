@@ -1,7 +1,7 @@
 -- What is reported of a page.
 use Rattle.std.specs.Prelude.{ℕ, List, [], ◌∷◌}
 use Rattle.filters_complaints.specs.Complaints as complaints
-use Rattle.mdoc_command.specs.declared.blocks.OpenBlock.{OpenBlock}
+use Rattle.filters_complaints.specs.declared.blocks.OpenBlock.{OpenBlock}
 use Rattle.mdoc_command.specs.declared.telling.Complaint.{Complaint}
 use Rattle.mdoc_command.specs.declared.telling.Kind.{Kind}
 use Rattle.mdoc_command.specs.declared.telling.Kind.TheVariants as kinds

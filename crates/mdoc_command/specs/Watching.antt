@@ -6,13 +6,13 @@ use Rattle.std.specs.List.{insert, remove}
 use Rattle.std.specs.Str.{bytes_eq}
 use Rattle.mdoc_converter.specs.Macros.{macro_of}
 use Rattle.nr_vectors.specs.Items.{Items}
-use Rattle.mdoc_command.specs.Blocks.{last_name, place_of}
+use Rattle.filters_complaints.specs.Blocks.{place_of}
 use Rattle.mdoc_command.specs.declared.lines.Half.{Half}
 use Rattle.mdoc_command.specs.declared.lines.Line.{Line}
 use Rattle.mdoc_command.specs.declared.lines.Line.TheVariants as lines_of
 use Rattle.mdoc_command.specs.declared.lines.Whole.{Whole}
 use Rattle.mdoc_command.specs.declared.lines.Whole.TheVariants as wholes
-use Rattle.mdoc_command.specs.declared.blocks.OpenBlock.{OpenBlock}
+use Rattle.filters_complaints.specs.declared.blocks.OpenBlock.{OpenBlock}
 use Rattle.mdoc_command.specs.declared.telling.Kind.{Kind}
 use Rattle.mdoc_command.specs.declared.telling.Kind.TheVariants as kinds
 use Rattle.mdoc_command.specs.Lines as lines
@@ -59,6 +59,11 @@ abbrev pub opened : List ℕ → Page → Page
 opened name p =
     if length p.blocks.items == p.blocks.capacity then reported (kinds.TooMany name) p else
     with_blocks (insert p.blocks.items 0 (record { name = name; line = p.half.number; columns = false })) p
+
+-- the macro of the last that was opened
+abbrev pub last_name : List OpenBlock → List ℕ
+last_name [] = []
+last_name (block ∷ blocks) = block.name
 
 -- blocks that were opened in the one that is ended stay open
 abbrev pub nested : List ℕ → ℕ → Page → Page

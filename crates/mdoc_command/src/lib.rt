@@ -1,11 +1,10 @@
 //! The program mdoc but for its `main`: its words, its files in order, what is wrong with pages, and the lines that tell how it
 //! ended.
 //!
-//! It stands on filters, filters_complaints, mdoc_converter, nr_units and nr_vectors. To read: `names`, `lines`, `blocks`, `telling`, `wording`,
+//! It stands on filters, filters_complaints, mdoc_converter, nr_units and nr_vectors. To read: `names`, `lines`, `telling`, `wording`,
 //! `naming`, `watching`, `watched`; `complaints`, `looking`, `rooms`, `program`.
 #![tactic(auto)]
 
-mod blocks;
 mod complaints;
 mod lines;
 mod looking;

@@ -3,10 +3,9 @@ ghost use Rattle.std.specs.Prelude.{◌≡◌, IfErr, IfOk};
 ghost use Rattle.filters.specs.Endings.{Tells};
 ghost use Rattle.mdoc_command.specs.Complaints.{lines_of, reported_of};
 
-use super::blocks::{MOST_OPEN, OpenBlock};
 use super::telling::room_for;
 use super::watching::Watch;
-use filters_complaints::{MOST_COMPLAINTS, tell_complaints};
+use filters_complaints::{MOST_COMPLAINTS, MOST_OPEN, OpenBlock, tell_complaints};
 use nr_units::sink::Sink;
 use std::alloc::{AllocError, Global};
 

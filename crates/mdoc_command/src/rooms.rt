@@ -2,12 +2,11 @@
 ghost use Rattle.std.specs.Prelude.{◌≡◌, ◌≤◌, length};
 ghost use Rattle.mdoc_command.specs.Converting.{ending_of};
 
-use super::blocks::{MOST_OPEN, OpenBlock};
 use super::telling::{Complaint, room_for};
 use super::watched::Watched;
 use super::watching::Watch;
 use filters::{BUFFER_SIZE, Ending, Turns};
-use filters_complaints::{MOST_COMPLAINTS, tell_complaints};
+use filters_complaints::{MOST_COMPLAINTS, MOST_OPEN, OpenBlock, tell_complaints};
 use mdoc_converter::{Block, RunEnd, convert};
 use nr_units::buffered::Buffered;
 use nr_units::sink::Sink;

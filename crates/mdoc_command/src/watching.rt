@@ -2,13 +2,12 @@
 ghost use Rattle.std.specs.Prelude.{◌≡◌, ◌≤◌, length};
 ghost use Rattle.mdoc_command.specs.Watching as specs;
 
-use super::blocks::{OpenBlock, place_of};
 use super::lines::{Half, Line, Whole};
 use super::names::{is_mark, is_request, opener_of, opens};
 use super::naming::Naming;
 use super::telling::{Complaint, Kind, report_broken, report_not_ended};
 use super::wording::Wording;
-use filters_complaints::Complaints;
+use filters_complaints::{Complaints, OpenBlock, place_of};
 use mdoc_converter::is_macro;
 use nr_units::Name;
 use nr_vectors::slice_vec::SliceVec;

@@ -1,6 +1,6 @@
 use Rattle.std.proofs.Common.{arith}
 use Rattle.std.proofs.lemmas.Grind.{common_steps}
-use Rattle.mdoc_command.proofs.blocks.place_of.Goals as goal
+use Rattle.filters_complaints.proofs.blocks.place_of.Goals as goal
 
 pub returns-then-eq-clause-value : goal.returns-then-eq-clause-value
 returns-then-eq-clause-value c = grind (arith, common_steps)

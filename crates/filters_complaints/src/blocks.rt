@@ -1,6 +1,6 @@
-// The blocks that are open.
+// The blocks of a page that are open.
 ghost use Rattle.std.specs.Prelude.{◌≡◌, ◌<◌, length, IfSome};
-ghost use Rattle.mdoc_command.specs.Blocks as specs;
+ghost use Rattle.filters_complaints.specs.Blocks as specs;
 
 use nr_units::Name;
 
@@ -14,7 +14,7 @@ pub struct OpenBlock {
     pub name: Name,
     /// Its line, from 1 on.
     pub line: u64,
-    /// It is a list of columns.
+    /// It is a list of columns, as pages of mdoc have them.
     pub columns: bool,
 }
 

@@ -1,7 +1,7 @@
--- The blocks that are open, the last that was opened first.
+-- The blocks of a page that are open, the last that was opened first.
 use Rattle.std.specs.Prelude.{ℕ, ◌+◌, List, [], ◌∷◌, if◌then◌else◌, Option, None, Some}
 use Rattle.std.specs.Str.{bytes_eq}
-use Rattle.man_lint.specs.declared.blocks.OpenBlock.{OpenBlock}
+use Rattle.filters_complaints.specs.declared.blocks.OpenBlock.{OpenBlock}
 
 -- the place of the last that a macro opened, where the first of these has this place
 abbrev pub place_from : ℕ → List ℕ → List OpenBlock → Option ℕ
