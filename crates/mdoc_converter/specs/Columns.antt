@@ -5,7 +5,17 @@ use Rattle.mdoc_converter.specs.declared.page.Block.{Block}
 use Rattle.mdoc_converter.specs.declared.page.Page.{Page}
 use Rattle.mdoc_converter.specs.Laying.{Laid, laid, with_lay, was_put}
 use Rattle.mdoc_converter.specs.Options.{at_most, is_column}
-use Rattle.mdoc_converter.specs.OwnLines.{digits, fresh, line_end}
+use Rattle.mdoc_converter.specs.OwnLines.{digits, fresh, line_end, put_head}
+
+-- Columns begin with a macro: `.%b W` begins a cell W further to the right, beside the last line of the cell before it if that has one
+-- which leaves a blank. The first comparison gives 1 or 0, and no place is below 0.
+abbrev pub cell_macro : List ℕ
+cell_macro =
+    codes ".de %b\n.in +\\\\$1\n.if \\\\$1>\\\\n(.n*\\\\n(nl>\\\\n(%t \\\\{.sp -1\n\\\\&\\\\c\n.\\\\}\n.nr %t \\\\n(nl\n..\n"
+
+-- and with a string, of their tab stops
+abbrev pub put_columns : Page → Laid
+put_columns p = put_head (cell_macro ++ codes ".ds %c") p
 
 -- the width of the newest column is kept, and a tab stop stands after the ones before
 abbrev pub put_column : ℕ → Page → Laid
@@ -37,13 +47,9 @@ next_cell p = at_most 99 p.lay.cell + 1
 abbrev pub step_to : ℕ → Block → List ℕ
 step_to cell b = codes "\\n[%" ++ digits cell ++ codes "]u+" ++ digits (gap b.columns) ++ codes "n"
 
--- The next cell stands further to the right, beside the last line of the one before if that leaves a blank and the cell has a line.
--- The first comparison gives 1 or 0, and no place is above 0.
+-- the next cell stands further to the right, beside the last line of the one before if that leaves a blank
 abbrev pub put_step : Page → List ℕ
-put_step p =
-    let step = step_to (next_cell p) p.block in
-    codes ".in +" ++ step ++ codes "\n.if " ++ step
-    ++ codes ">\\n(.nu*\\n(nl>\\n(%tu \\{\\\n.sp -1\n\\&\\c\n.\\}\n.nr %t \\n(nl\n"
+put_step p = codes ".%b " ++ step_to (next_cell p) p.block ++ codes "\n"
 
 -- one after the last column's joins what is before
 abbrev pub has_column : Page → Bool

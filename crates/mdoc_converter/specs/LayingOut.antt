@@ -3,14 +3,14 @@ use Rattle.std.specs.Prelude.{[], ◌∷◌, true, false, codes}
 use Rattle.mdoc_converter.specs.declared.acts.Act.{Act}
 use Rattle.mdoc_converter.specs.declared.acts.Act.TheVariants as acts
 use Rattle.mdoc_converter.specs.declared.page.Page.{Page}
-use Rattle.mdoc_converter.specs.Columns.{put_cell, put_column, put_row, put_stops}
+use Rattle.mdoc_converter.specs.Columns.{put_cell, put_column, put_columns, put_row, put_stops}
 use Rattle.mdoc_converter.specs.Laying.{Laid, laid, with_lay, put, is_joined, end_line, lay_word}
 use Rattle.mdoc_converter.specs.OwnLines.{freshen, end_tag, end_hang, quiet_down, put_space, put_request, put_sized, put_hanging, put_tag, put_numbered, put_title, put_title_prefix, end_title, put_head, put_control, put_naming}
 use Rattle.mdoc_converter.specs.References.{put_part_begin, put_reference}
 use Rattle.mdoc_converter.specs.Texts.{text_of, prefix_of}
 
 abbrev pub lay_column : Act → Page → Laid
-lay_column acts.Columns p = put_head (codes ".ds %c") p
+lay_column acts.Columns p = put_columns p
 lay_column (acts.Column width) p = put_column width p
 lay_column (acts.Stops gap) p = put_stops gap p
 lay_column acts.Cell p = put_cell p

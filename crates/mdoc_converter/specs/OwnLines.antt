@@ -50,12 +50,9 @@ fresh p =
 abbrev pub freshen : Page → Laid
 freshen p = laid (fresh p) (line_end p)
 
--- A tag is whole: text stands after it where it is one line, by the place before it, and narrower than this. The first comparison
--- gives 1 or 0, and no tag is narrower than 0.
+-- a tag is whole: text stands after it where it is one line, and narrower than this
 abbrev pub end_tag : ℕ → Page → Laid
-end_tag width p =
-    laid (fresh p) (line_end p ++ codes ".br\n.if \\n(nl-\\n(%tu=1v*" ++ digits width
-    ++ codes "n>\\n(.nu \\{\\\n.sp -1\n\\&\\c\n.\\}\n")
+end_tag width p = laid (fresh p) (line_end p ++ codes ".%i " ++ digits width ++ codes "n\n")
 
 -- The same, where text goes on after it: a tag that is wider than this by more than one, or of several lines, has it a blank after
 -- its last line.

@@ -3,6 +3,7 @@ use Rattle.std.specs.Prelude.{ℕ, ◌+◌, [], ◌∷◌, ◌++◌, Bool, true,
 use Prim.Native.Char.{code}
 use Rattle.nr_units.specs.Name.{is_full}
 use Rattle.mdoc_converter.specs.declared.acts.Act.TheVariants as acts
+use Rattle.mdoc_converter.specs.declared.acts.Request.TheVariants as requests
 use Rattle.mdoc_converter.specs.declared.acts.Text.TheVariants as texts
 use Rattle.mdoc_converter.specs.declared.macros.Macro.TheVariants as macros
 use Rattle.mdoc_converter.specs.declared.page.Last.TheVariants as lasts
@@ -189,8 +190,10 @@ passes_to prefix lines b =
 abbrev pub passes : Prefix → ℕ → ℕ → Page → Offered
 passes prefix lines b p = turns (passes_to prefix lines b) (taken (acts.Byte b)) p
 
+-- the macro that ends tags is defined there
 abbrev pub wakes : Page → Offered
-wakes p = turns scans.Between (left acts.Nothing) (record p { call = call_of macros.Date })
+wakes p =
+    turns scans.Between (left (acts.Request requests.TagMacro)) (record p { call = call_of macros.Date })
 
 abbrev pub gives_up : Prefix → ℕ → Page → Offered
 gives_up prefix lines p = turns (scans.Asleep (given_up prefix) lines) (left (acts.Prefix prefix)) p

@@ -111,6 +111,12 @@ prefix_of prefixes.Half = codes ".D"
 prefix_of prefixes.Whole = codes ".Dd"
 prefix_of prefix = []
 
+-- The macro `.%i W` ends a tag: text stands after it where it is one line, by the place before it, and narrower than W. The first
+-- comparison gives 1 or 0, and no tag is narrower than 0.
+abbrev pub tag_macro : List ℕ
+tag_macro =
+    codes ".de %i\n.br\n.if \\\\n(nl-\\\\n(%t=1v*\\\\$1>\\\\n(.n \\\\{.sp -1\n\\\\&\\\\c\n.\\\\}\n..\n"
+
 -- a request, as a line
 abbrev pub request_of : Request → List ℕ
 request_of requests.Break = codes ".br\n"
@@ -127,6 +133,7 @@ request_of requests.CenteredEnds = codes ".ce 0\n.fi\n"
 request_of requests.Hangs = codes ".in +4n\n.)T -4n\n"
 request_of requests.HangEnds = codes ".br\n.in -4n\n"
 request_of requests.Link = codes ".ds %L \""
+request_of requests.TagMacro = tag_macro
 request_of (requests.Font Roman) = codes ".ft R\n"
 request_of (requests.Font Bold) = codes ".ft B\n"
 request_of (requests.Font Italic) = codes ".ft I\n"

@@ -91,6 +91,8 @@ pub(crate) enum Request {
     HangEnds,
     /// A string begins, which keeps a link.
     Link,
+    /// The definition of the macro that ends a tag.
+    TagMacro,
     /// A font.
     Font(Font),
 }

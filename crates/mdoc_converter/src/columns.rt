@@ -43,6 +43,20 @@ fn put_step_to(cell: u16, block: Block, out: &mut SliceVec<'_, u8>)
 }
 
 impl Page {
+    /// Columns begin: the macro that begins a cell, and the string of tab stops.
+    pub(crate) fn put_columns(&mut self, out: &mut SliceVec<'_, u8>)
+        requires { length out.old.items + 128 ≤ out.old.capacity }
+        ensures page { self.new ≡ (specs.put_columns self.old).page }
+        ensures items { out.new.items ≡ out.old.items ++ (specs.put_columns self.old).bytes }
+        ensures few { length out.new.items ≤ length out.old.items + 128 }
+        ensures room { out.new.capacity ≡ out.old.capacity }
+    {
+        self.put_head(
+            b".de %b\n.in +\\\\$1\n.if \\\\$1>\\\\n(.n*\\\\n(nl>\\\\n(%t \\\\{.sp -1\n\\\\&\\\\c\n.\\\\}\n.nr %t \\\\n(nl\n..\n.ds %c",
+            out,
+        );
+    }
+
     /// The width of the newest column, and a tab stop after the ones before.
     pub(crate) fn put_column(&mut self, width: u16, out: &mut SliceVec<'_, u8>)
         requires { length out.old.items + 64 ≤ out.old.capacity }
@@ -96,11 +110,9 @@ impl Page {
         ensures few { length out.new.items ≤ length out.old.items + 140 }
         ensures room { out.new.capacity ≡ out.old.capacity }
     {
-        out.extend(b".in +");
+        out.extend(b".%b ");
         put_step_to(cell, self.block, out);
-        out.extend(b"\n.if ");
-        put_step_to(cell, self.block, out);
-        out.extend(b">\\n(.nu*\\n(nl>\\n(%tu \\{\\\n.sp -1\n\\&\\c\n.\\}\n.nr %t \\n(nl\n");
+        out.extend(b"\n");
     }
 
     /// A cell ends, and another begins: one after the last column's joins what is before.

@@ -50,7 +50,7 @@ impl Page {
         ensures room { out.new.capacity ≡ out.old.capacity }
     {
         match act {
-            Act::Columns => self.put_head(b".ds %c", out),
+            Act::Columns => self.put_columns(out),
             Act::Column(width) => self.put_column(width, out),
             Act::Stops(gap) => self.put_stops(gap, out),
             Act::Cell => self.put_cell(out),

@@ -80,9 +80,9 @@ impl Page {
         ensures room { out.new.capacity ≡ out.old.capacity }
     {
         self.freshen(out);
-        out.extend(b".br\n.if \\n(nl-\\n(%tu=1v*");
+        out.extend(b".%i ");
         put_number(width, out);
-        out.extend(b"n>\\n(.nu \\{\\\n.sp -1\n\\&\\c\n.\\}\n");
+        out.extend(b"n\n");
     }
 
     /// A tag is whole, and text goes on after it: where it is wider than this by more than one, a blank after its last line.

@@ -3,7 +3,7 @@ ghost use Rattle.std.specs.Prelude.{◌≡◌};
 ghost use Rattle.mdoc_converter.specs.Seeing.{offered};
 ghost use Rattle.mdoc_converter.specs.Scanning as specs;
 
-use super::acts::{Act, Text};
+use super::acts::{Act, Request, Text};
 use super::escaping::{Escape, escape_then};
 use super::keeping::ends_word;
 use super::lines::call_of;
@@ -333,12 +333,13 @@ impl Page {
         }
     }
 
-    /// The page is one of mdoc.
+    /// The page is one of mdoc: the macro that ends tags is defined.
     fn wakes(&mut self) -> Seen
         ensures { offered self.new result ≡ specs.wakes self.old }
     {
         self.call = call_of(Macro::Date);
-        self.turns(Scan::Between, Seen::left(Act::Nothing))
+        let defines = Seen::left(Act::Request(Request::TagMacro));
+        self.turns(Scan::Between, defines)
     }
 
     /// A byte passes.

@@ -169,6 +169,8 @@ pub(crate) fn request_of(request: Request) -> &'static [u8]
         Request::Hangs => b".in +4n\n.)T -4n\n",
         Request::HangEnds => b".br\n.in -4n\n",
         Request::Link => b".ds %L \"",
+        Request::TagMacro =>
+            b".de %i\n.br\n.if \\\\n(nl-\\\\n(%t=1v*\\\\$1>\\\\n(.n \\\\{.sp -1\n\\\\&\\\\c\n.\\\\}\n..\n",
         Request::Font(Font::Roman) => b".ft R\n",
         Request::Font(Font::Bold) => b".ft B\n",
         Request::Font(Font::Italic) => b".ft I\n",
