@@ -235,7 +235,7 @@ none_is_lost xs = somewhere xs nothing
 
 -- ---- where all have room
 
-pairs_grow : (s s' : ℕ) → s ≤ s' → pairs_in s ≤ pairs_in s'
+pub pairs_grow : (s s' : ℕ) → s ≤ s' → pairs_in s ≤ pairs_in s'
 pairs_grow s s' h =
     let a : s / 2 ≤ s' / 2 = omega arith in
     let b : s - s / 2 ≤ s' - s' / 2 = omega arith in

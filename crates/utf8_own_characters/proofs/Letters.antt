@@ -118,7 +118,7 @@ done-append l (x ∷ xs) ys =
     ap (λ (z : List Cluster). list_of (read l x).done ++ z) (done-append (read l x).listener xs ys)
     ∙ sym (append_assoc (list_of (read l x).done) (done_in (read l x).listener xs) (done_in (after (read l x).listener xs) ys))
 
-seen-append : (room : ℕ) (counts : List Count) (cs ds : List Cluster) → seen room counts (cs ++ ds) ≡ seen room (seen room counts cs) ds
+pub seen-append : (room : ℕ) (counts : List Count) (cs ds : List Cluster) → seen room counts (cs ++ ds) ≡ seen room (seen room counts cs) ds
 seen-append room counts [] ds = refl
 seen-append room counts (c ∷ cs) ds = seen-append room (noted room counts (Some c)) cs ds
 

@@ -1,6 +1,7 @@
 pub mod ChoiceLaws
 pub mod Coding
 pub mod Counted
+pub mod Covered
 pub mod FixedLaws
 pub mod Letters
 pub mod NoneAfter

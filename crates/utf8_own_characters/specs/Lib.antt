@@ -2,6 +2,7 @@ pub mod Breaking
 pub mod Choosing
 pub mod Cluster
 pub mod Counting
+pub mod Covering
 pub mod Decoding
 pub mod Fixed
 pub mod Joining

@@ -1,5 +1,6 @@
 //! In which way a row is read back: laws of the definitions alone, so the functions do nothing.
 ghost use Rattle.utf8_own_characters.specs.Choosing.{ChoiceIsGood, NoneIsLost, AllFit, FewestAreSides, FirstComeFirst};
+ghost use Rattle.utf8_own_characters.specs.Covering.{AllAreCovered};
 ghost use Rattle.utf8_own_characters.specs.Fixed.{SameBytes, SameCharacters};
 ghost use Rattle.utf8_own_characters.specs.Decoding.{ReadsText};
 ghost use Rattle.utf8_own_characters.specs.Ranking.{Falls, KeepsAll, KeepsOnce};
@@ -41,6 +42,14 @@ pub fn choices_are_good()
     ensures none_lost { NoneIsLost }
     ensures all { AllFit }
     ensures first { FirstComeFirst }
+{}
+
+/// Where all clusters that were counted have room, the table that is made of them has each that came.
+///
+/// Proved: Where all clusters that were counted have room in a table, that which is made of them has each that came and takes a place; of
+/// at most 4,224 that have room none is counted too late. (`tables_that_fit_cover_all`)
+pub fn tables_that_fit_cover_all()
+    ensures { AllAreCovered }
 {}
 
 /// A text in UTF-8 is read as its characters.
