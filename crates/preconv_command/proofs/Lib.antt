@@ -1,3 +1,4 @@
+pub mod Reporting
 pub mod Running
 pub mod Turns
 pub mod TwoStages

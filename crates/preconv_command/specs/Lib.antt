@@ -1,3 +1,4 @@
 pub mod Arguments
 pub mod Converting
 pub mod Through
+pub mod Unshown

@@ -6,10 +6,12 @@ ghost use Rattle.filters.specs.Program.{Comes, is_unread};
 ghost use Rattle.filters_own.specs.Looking.{ComesTo};
 ghost use Rattle.utf8_own_characters.specs.Table.{Good};
 ghost use Rattle.preconv_command.specs.Converting.{own};
+ghost use Rattle.preconv_command.specs.Unshown.{AreReported, is_whole};
 
 use super::lines::Lines;
 use super::program::{complained, ended};
 use super::through::Through;
+use super::unshown::report_unshown;
 use document_stages::run;
 use filters::{BUFFER_SIZE, Disk, Ending, Paths, Turns, turn_names};
 use filters_own::look_at;
@@ -72,7 +74,12 @@ impl Turns for OwnConverter<'_> {
     }
 }
 
-/// Looks at a file, and turns the texts of these names into the bytes of the table of its characters.
+/// Looks at a file, and turns the texts of these names into the bytes of the table of its characters. Where all went out, those of them
+/// are reported that the table has no room for.
+///
+/// Proved: Where all went out, the last line names the most frequent eight of the characters that were counted in the first MiB of the
+/// file whose table it is and have no room in it, and says how many more there are; there is no line where all have room. (`turn_own`;
+/// `AreReported` in Unshown.antt)
 pub(crate) fn turn_own<'a, P: Paths, I: Read + Copy + Drop, W: Sink, E: Sink>(
     file: &'a str,
     names: &[&'a str],
@@ -85,10 +92,15 @@ pub(crate) fn turn_own<'a, P: Paths, I: Read + Copy + Drop, W: Sink, E: Sink>(
         (P.asked disk.old.paths) (P.asked disk.new.paths) (W.held output) (W.held result.1)
         (W.failures output) (W.failures result.1) (W.passed_on result.1)) result.0 }
     ensures quiet { is_unread result.0 ≡ true → errors.new ≡ errors.old }
+    ensures reported { is_whole result.0 ≡ true → AreReported (MayCome (I.remaining disk.old.standard) (P.may_open disk.old.paths))
+        file.now (E.held errors.new) (E.failures errors.new) }
 {
     let cells = match look_at(file, disk) {
         Ok(cells) => cells,
         Err(ending) => return (ending, output),
+    };
+    let Ok(unshown) = cells.left_out(disk.alloc) else {
+        return (Ending::OutOfMemory, output);
     };
     let Ok(input) = vec![in disk.alloc; 0u8; BUFFER_SIZE] else {
         return (Ending::OutOfMemory, output);
@@ -98,5 +110,7 @@ pub(crate) fn turn_own<'a, P: Paths, I: Read + Copy + Drop, W: Sink, E: Sink>(
         table: &table,
         input,
     };
-    turn_names(&mut turner, names, disk, output, errors)
+    let (ending, output) = turn_names(&mut turner, names, disk, output, errors);
+    report_unshown(ending, file, &unshown, errors);
+    (ending, output)
 }
