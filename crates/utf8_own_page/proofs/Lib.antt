@@ -1,2 +1,3 @@
 mod Looks
 pub mod Left
+pub mod PagesCovered
