@@ -3,6 +3,7 @@ use Rattle.std.proofs.Common.{◌≡◌, ◌==◌, ℕ, zero, suc, ◌+◌, ◌-
 use Rattle.std.proofs.lemmas.List.{append-nil}
 use Prim.Native.Char.{code}
 use Rattle.nr_vectors.specs.Items.{Items}
+use Rattle.tbl_blocks.specs.declared.addresses.Address.{Address}
 use Rattle.tbl_blocks.specs.declared.arguments.Argument.{Argument}
 use Rattle.tbl_blocks.specs.declared.blocks.Blocks.{Blocks}
 use Rattle.tbl_blocks.specs.declared.parts.Font.{Font}
@@ -14,6 +15,7 @@ use Rattle.tbl_blocks.specs.declared.requests.Request.TheVariants as requests
 use Rattle.tbl_blocks.specs.declared.units.Does.{Does}
 use Rattle.tbl_blocks.specs.declared.units.Does.TheVariants as does
 use Rattle.tbl_blocks.specs.declared.units.Unit.{Unit}
+use Rattle.tbl_blocks.specs.Addresses.{address_part, address_put, address_put_in, address_read}
 use Rattle.tbl_blocks.specs.Arguments.{argument, blanks_len, first_argument, number_or, request_len, spaces_len}
 use Rattle.tbl_blocks.specs.Blocks.{field_read}
 use Rattle.tbl_blocks.specs.Laws.{BlocksAreAdded, FieldsAreAdded, HasNoIndents}
@@ -21,7 +23,7 @@ use Rattle.tbl_blocks.specs.Lists.{added}
 use Rattle.tbl_blocks.specs.Reading.{after_part, breaks, ends_in_space, indented, once_set, paragraph, part_to, parts_before, read_as, reading_of, skipped, space_part, taken, waits_for, word_begun}
 use Rattle.tbl_blocks.specs.Requests.{request_of}
 use Rattle.tbl_blocks.specs.Units.{unit_of}
-use Rattle.tbl_blocks.specs.Words.{argument_read, arguments_from, arguments_read, block_ended, byte_taken, cells_from, face_read, faces_read, goes_on, is_none, is_request, item_read, joined_read, line_as, line_read, lines_from, lines_read, obeyed, part_ended, parted, request_read, tag_ended, tag_taken, text_read, unit_taken, unknown_read, whole_read, with_reading, with_unit, word_at_place, words_from, words_of_line, words_read}
+use Rattle.tbl_blocks.specs.Words.{argument_read, arguments_from, arguments_read, block_ended, byte_taken, cells_from, face_read, faces_read, goes_on, is_none, is_request, item_read, joined_read, line_as, line_read, lines_from, lines_read, obeyed, part_ended, parted, request_read, space_ended, tag_ended, tag_taken, text_read, unit_taken, unknown_read, whole_read, with_reading, with_unit, word_at_place, words_from, words_of_line, words_read}
 
 abbrev Grows : Blocks → Blocks → Type 0
 Grows s t = (new : List Part) × (t.parts.items ≡ s.parts.items ++ new)
@@ -121,9 +123,24 @@ tag_new : (tag : Option ℕ) (first : ℕ) (s : Blocks) → Grows s (tag_taken t
 tag_new None first s = none_new s
 tag_new (Some by) first s = either (nat_lt 0 (cells_from first s)) (tag_ended first by s) s s (none_new s) (none_new s)
 
+-- ---- addresses
+
+address_put_new : (address : Option Address) (s : Blocks) → Grows s (address_put_in address s)
+address_put_new None s = none_new s
+address_put_new (Some a) s = one_new (address_part a s.reading) s.parts
+
+address_new : (text : List ℕ) (place : ℕ) (s : Blocks) → Grows s (address_read text place s)
+address_new text place s = address_put_new s.reading.address s
+
+address_end_new : (text : List ℕ) (place : ℕ) (s : Blocks) → Grows s (unknown_read text place (address_put s))
+address_end_new text place s =
+    then_new s (address_put s) (unknown_read text place (address_put s)) (address_put_new s.reading.address s) (unknown_new text place (address_put s))
+
 obeyed_new : (request : Request) (text : List ℕ) (place : ℕ) (s : Blocks) → Grows s (obeyed request text place s)
 obeyed_new (requests.Face f) text place s = face_new text place f s
 obeyed_new (requests.Faces f g) text place s = arguments_new text place (record { first = f; second = g; joined = true }) s
+obeyed_new requests.Address text place s = address_new text place s
+obeyed_new requests.AddressEnd text place s = address_end_new text place s
 obeyed_new requests.Unknown text place s = unknown_new text place s
 obeyed_new requests.Item text place s = item_new text place s
 obeyed_new requests.Tagged text place s = none_new s
@@ -176,9 +193,13 @@ lines_from_new line place (b ∷ bs) s =
     (then_new s (line_read line place s) (lines_from [] next bs (line_read line place s)) (line_new line place s) (lines_from_new [] next bs (line_read line place s)))
     (lines_from_new (line ++ b ∷ []) place bs s)
 
+space_ended_new : (place : ℕ) (s : Blocks) → Grows s (space_ended place s)
+space_ended_new place s =
+    either (ends_in_space s.reading) (record s { parts = added (space_part place s.reading) s.parts }) s s (one_new (space_part place s.reading) s.parts) (none_new s)
+
 block_ended_new : (place : ℕ) (s : Blocks) → Grows s (block_ended place s)
 block_ended_new place s =
-    either (ends_in_space s.reading) (record s { parts = added (space_part place s.reading) s.parts }) s s (one_new (space_part place s.reading) s.parts) (none_new s)
+    then_new s (address_put s) (block_ended place s) (address_put_new s.reading.address s) (space_ended_new place (address_put s))
 
 pub blocks_are_added : BlocksAreAdded
 blocks_are_added text place f spread s =

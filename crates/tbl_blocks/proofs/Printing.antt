@@ -7,7 +7,7 @@ use Rattle.nr_settings.specs.Characters.{prints as is_printed}
 use Rattle.tbl_blocks.specs.declared.blocks.Measured.{Measured}
 use Rattle.tbl_blocks.specs.declared.parts.Known.{Known}
 use Rattle.tbl_blocks.specs.declared.units.Does.TheVariants as does
-use Rattle.tbl_blocks.specs.Blocks.{extended, measured, widened}
+use Rattle.tbl_blocks.specs.Extents.{extended, measured, widened}
 use Rattle.tbl_blocks.specs.Parts.{sum}
 use Rattle.tbl_blocks.specs.Units.{byte_does, escape, is_letter, is_printing, is_stop, is_sure, unit_of}
 

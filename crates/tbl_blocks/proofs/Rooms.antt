@@ -2,6 +2,7 @@
 use Rattle.std.proofs.Common.{◌≡◌, ◌==◌, ℕ, zero, suc, ◌+◌, ◌-◌, Bool, true, false, nat_lt, List, [], ◌∷◌, ◌++◌, length, drop, take, slice_range, refl, ap, ◌∙◌, Option, Some, None, if◌then◌else◌}
 use Prim.Native.Char.{code}
 use Rattle.nr_vectors.specs.Items.{Items}
+use Rattle.tbl_blocks.specs.declared.addresses.Address.{Address}
 use Rattle.tbl_blocks.specs.declared.arguments.Argument.{Argument}
 use Rattle.tbl_blocks.specs.declared.blocks.Blocks.{Blocks}
 use Rattle.tbl_blocks.specs.declared.parts.Font.{Font}
@@ -10,6 +11,7 @@ use Rattle.tbl_blocks.specs.declared.reading.Manner.{Manner}
 use Rattle.tbl_blocks.specs.declared.requests.Request.{Request}
 use Rattle.tbl_blocks.specs.declared.requests.Request.TheVariants as requests
 use Rattle.tbl_blocks.specs.declared.units.Unit.{Unit}
+use Rattle.tbl_blocks.specs.Addresses.{address_part, address_put, address_put_in, address_read}
 use Rattle.tbl_blocks.specs.Arguments.{argument, blanks_len, first_argument, number_or, request_len, spaces_len}
 use Rattle.tbl_blocks.specs.Blocks.{block_read, emptied, field_read, filled, none_of, some_parts}
 use Rattle.tbl_blocks.specs.Filling.{lines_of}
@@ -17,7 +19,7 @@ use Rattle.tbl_blocks.specs.Lists.{added, added_all}
 use Rattle.tbl_blocks.specs.Reading.{after_part, breaks, ends_in_space, indented, once_set, paragraph, part_to, skipped, parts_before, reading_of, space_part, waits_for, word_begun}
 use Rattle.tbl_blocks.specs.Requests.{request_of}
 use Rattle.tbl_blocks.specs.Units.{unit_of}
-use Rattle.tbl_blocks.specs.Words.{argument_read, arguments_from, arguments_read, block_ended, byte_taken, cells_from, face_read, faces_read, goes_on, is_none, is_request, item_read, joined_read, line_as, line_read, lines_from, lines_read, obeyed, part_ended, request_read, tag_ended, tag_taken, text_read, unit_taken, unknown_read, whole_read, with_reading, with_unit, word_at_place, words_from, words_of_line, words_read}
+use Rattle.tbl_blocks.specs.Words.{argument_read, arguments_from, arguments_read, block_ended, byte_taken, cells_from, face_read, faces_read, goes_on, is_none, is_request, item_read, joined_read, line_as, line_read, lines_from, lines_read, obeyed, part_ended, request_read, space_ended, tag_ended, tag_taken, text_read, unit_taken, unknown_read, whole_read, with_reading, with_unit, word_at_place, words_from, words_of_line, words_read}
 
 -- where both of a choice keep them
 either : (b : Bool) (x y s : Blocks) → emptied x ≡ emptied s → emptied y ≡ emptied s → emptied (if b then x else y) ≡ emptied s
@@ -92,9 +94,20 @@ tag_room : (tag : Option ℕ) (first : ℕ) (s : Blocks) → emptied (tag_taken 
 tag_room None first s = refl
 tag_room (Some by) first s = either (nat_lt 0 (cells_from first s)) (tag_ended first by s) s s refl refl
 
+-- ---- addresses
+
+address_put_room : (address : Option Address) (s : Blocks) → emptied (address_put_in address s) ≡ emptied s
+address_put_room None s = refl
+address_put_room (Some a) s = refl
+
+address_room : (text : List ℕ) (place : ℕ) (s : Blocks) → emptied (address_read text place s) ≡ emptied s
+address_room text place s = address_put_room s.reading.address s
+
 obeyed_room : (request : Request) (text : List ℕ) (place : ℕ) (s : Blocks) → emptied (obeyed request text place s) ≡ emptied s
 obeyed_room (requests.Face f) text place s = face_room text place f s
 obeyed_room (requests.Faces f g) text place s = arguments_room text place (record { first = f; second = g; joined = true }) s
+obeyed_room requests.Address text place s = address_room text place s
+obeyed_room requests.AddressEnd text place s = unknown_room text place (address_put s) ∙ address_put_room s.reading.address s
 obeyed_room requests.Unknown text place s = unknown_room text place s
 obeyed_room requests.Item text place s = item_room text place s
 obeyed_room requests.Tagged text place s = refl
@@ -144,8 +157,11 @@ lines_from_room line place (b ∷ bs) s =
     (lines_from_room [] (place + length line + 1) bs (line_read line place s) ∙ line_room line place s)
     (lines_from_room (line ++ b ∷ []) place bs s)
 
+space_ended_room : (place : ℕ) (s : Blocks) → emptied (space_ended place s) ≡ emptied s
+space_ended_room place s = either (ends_in_space s.reading) (record s { parts = added (space_part place s.reading) s.parts }) s s refl refl
+
 block_ended_room : (place : ℕ) (s : Blocks) → emptied (block_ended place s) ≡ emptied s
-block_ended_room place s = either (ends_in_space s.reading) (record s { parts = added (space_part place s.reading) s.parts }) s s refl refl
+block_ended_room place s = space_ended_room place (address_put s) ∙ address_put_room s.reading.address s
 
 pub block_room : (text : List ℕ) (place : ℕ) (f : Font) (spread : Bool) (s : Blocks) → emptied (block_read text place f spread s) ≡ emptied s
 block_room text place f spread s =

@@ -13,7 +13,7 @@ use Rattle.tbl_blocks.specs.declared.blocks.Measured.{Measured}
 use Rattle.tbl_blocks.specs.declared.parts.Known.{Known}
 use Rattle.tbl_blocks.specs.declared.units.Does.TheVariants as does
 use Rattle.tbl_blocks.specs.declared.units.Unit.{Unit}
-use Rattle.tbl_blocks.specs.Blocks.{extended, measured, measured_from, nothing_measured}
+use Rattle.tbl_blocks.specs.Extents.{extended, measured, measured_from, nothing_measured}
 use Rattle.tbl_blocks.specs.Laws.{HasNoStrings, WidthIsThatOfW}
 use Rattle.tbl_blocks.specs.Parts.{sum}
 use Rattle.tbl_blocks.specs.Units.{byte_does, escape, escape_by, is_letter, is_sure, prints, special, unit_in, unit_of}

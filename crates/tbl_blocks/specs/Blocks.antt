@@ -1,20 +1,13 @@
 -- Blocks as they are held: their parts, their lines, and the strings that are known.
-use Rattle.std.specs.Prelude.{ℕ, ◌+◌, ◌-◌, nat_lt, Bool, true, false, not, ◌==◌, ◌&&◌, List, [], ◌∷◌, length, slice_range, if◌then◌else◌}
-use Prim.Native.Char.{code}
+use Rattle.std.specs.Prelude.{ℕ, ◌+◌, Bool, true, false, List, [], length, slice_range}
 use Rattle.nr_vectors.specs.Items.{Items}
 use Rattle.tbl_blocks.specs.declared.blocks.Blocks.{Blocks}
-use Rattle.tbl_blocks.specs.declared.blocks.Measured.{Measured}
-use Rattle.tbl_blocks.specs.declared.parts.Extent.{Extent}
 use Rattle.tbl_blocks.specs.declared.parts.Font.{Font}
 use Rattle.tbl_blocks.specs.declared.parts.Font.TheVariants as fonts
-use Rattle.tbl_blocks.specs.declared.parts.Known.{Known}
 use Rattle.tbl_blocks.specs.declared.parts.Part.{Part}
-use Rattle.tbl_blocks.specs.declared.units.Unit.{Unit}
 use Rattle.tbl_blocks.specs.Filling.{lines_of, longest}
 use Rattle.tbl_blocks.specs.Lists.{added_all}
-use Rattle.tbl_blocks.specs.Parts.{sum}
 use Rattle.tbl_blocks.specs.Reading.{reading_of}
-use Rattle.tbl_blocks.specs.Units.{is_sure, unit_of}
 use Rattle.tbl_blocks.specs.Words.{block_ended, lines_read, with_reading, words_read}
 
 abbrev pub none_of : {T : Type 0} → Items T → Items T
@@ -66,32 +59,3 @@ longest_run first end s = longest false (some_parts first end s)
 
 abbrev pub longest_word : ℕ → ℕ → Blocks → ℕ
 longest_word first end s = longest true (some_parts first end s)
-
--- ---- the extent of a text in one line
-
-abbrev pub nothing_measured : Measured
-nothing_measured = record { extent = record { cells = 0; sure = true }; more = 0 }
-
-abbrev pub extended : Unit → ℕ → Measured → Measured
-extended u b m = record {
-  extent = record {
-    cells = sum m.extent.cells u.cells;
-    sure = m.extent.sure && (is_sure u.does && not (b == code "\t"));
-  };
-  more = u.more;
-}
-
--- with a byte that prints as it is
-abbrev pub widened : Measured → Measured
-widened m = record m { extent = record m.extent { cells = sum m.extent.cells 1 }; more = 0 }
-
-abbrev pub measured : ℕ → List ℕ → List Known → Measured → Measured
-measured b text strings m =
-    if nat_lt 0 m.more then record m { more = m.more - 1 } else extended (unit_of b text strings) b m
-
-abbrev pub measured_from : List ℕ → List Known → Measured → Measured
-measured_from [] strings m = m
-measured_from (b ∷ bs) strings m = measured_from bs strings (measured b bs strings m)
-
-abbrev pub extent_of : List ℕ → List Known → Extent
-extent_of text strings = (measured_from text strings nothing_measured).extent

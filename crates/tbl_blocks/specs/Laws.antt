@@ -9,7 +9,8 @@ use Rattle.tbl_blocks.specs.declared.parts.Line.{Line}
 use Rattle.tbl_blocks.specs.declared.parts.Part.{Part}
 use Rattle.nr_settings.specs.Widths.{width_of as width_by_w}
 use Rattle.tbl_blocks.specs.Arguments.{is_blank}
-use Rattle.tbl_blocks.specs.Blocks.{block_read, extent_of, field_read}
+use Rattle.tbl_blocks.specs.Blocks.{block_read, field_read}
+use Rattle.tbl_blocks.specs.Extents.{extent_of}
 use Rattle.tbl_blocks.specs.Filling.{lines_of, longest}
 use Rattle.tbl_blocks.specs.Parts.{is_point, may_end, no_part, sum}
 use Rattle.tbl_blocks.specs.Words.{words_read}

@@ -1,5 +1,7 @@
+pub mod Addresses
 pub mod Arguments
 pub mod Blocks
+pub mod Extents
 pub mod Filling
 pub mod Laws
 pub mod Lists

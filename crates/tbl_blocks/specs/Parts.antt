@@ -51,7 +51,7 @@ is_line join = false
 
 -- what stands for one that is not there
 abbrev pub no_part : Part
-no_part = record { start = 0; «end» = 0; cells = 0; font = fonts.Roman; join = joins.Glued; indent = 0 }
+no_part = record { start = 0; «end» = 0; cells = 0; font = fonts.Roman; join = joins.Glued; indent = 0; bracketed = false }
 
 -- Spreading (CSTR 54 4.1, `.ad`): the blanks that a full line lacks go to its gaps, as many to each; the odd ones to the first gaps, or the last.
 abbrev pub is_wider : ℕ → Line → Bool

@@ -91,6 +91,7 @@ reading_of f spread = record {
   face = face_of f;
   once = None;
   tag = None;
+  address = None;
   join = joins.Line 0 0;
   margins = record { indent = 0; margin = 0; by = 7 };
   fills = true;
@@ -110,6 +111,7 @@ part_to place r = record {
   font = r.face.font;
   join = r.join;
   indent = r.margins.indent;
+  bracketed = false;
 }
 
 abbrev pub after_part : ℕ → Reading → Reading

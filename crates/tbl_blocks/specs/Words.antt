@@ -12,6 +12,7 @@ use Rattle.tbl_blocks.specs.declared.requests.Request.{Request}
 use Rattle.tbl_blocks.specs.declared.requests.Request.TheVariants as requests
 use Rattle.tbl_blocks.specs.declared.units.Unit.{Unit}
 use Rattle.tbl_blocks.specs.declared.parts.Part.{Part}
+use Rattle.tbl_blocks.specs.Addresses.{address_put, address_read}
 use Rattle.tbl_blocks.specs.Arguments.{argument, blanks_len, first_argument, number_or, request_len, spaces_len}
 use Rattle.tbl_blocks.specs.Parts.{blanks, sum}
 use Rattle.tbl_blocks.specs.Lists.{added}
@@ -156,6 +157,8 @@ obeyed (requests.Face f) text place s = face_read text place f s
 obeyed (requests.Faces f g) text place s =
     faces_read text place (record { first = f; second = g; joined = true }) s
 obeyed requests.Item text place s = item_read text place s
+obeyed requests.Address text place s = address_read text place s
+obeyed requests.AddressEnd text place s = unknown_read text place (address_put s)
 obeyed requests.Unknown text place s = unknown_read text place s
 obeyed request text place s = with_reading (reading_obeyed request (first_argument text) s.reading) s
 
@@ -211,6 +214,9 @@ abbrev pub lines_read : List ℕ → ℕ → Blocks → Blocks
 lines_read text place s = lines_from [] place text s
 
 -- empty lines at the end of a block are a line without text
-abbrev pub block_ended : ℕ → Blocks → Blocks
-block_ended place s =
+abbrev pub space_ended : ℕ → Blocks → Blocks
+space_ended place s =
     if ends_in_space s.reading then record s { parts = added (space_part place s.reading) s.parts } else s
+
+abbrev pub block_ended : ℕ → Blocks → Blocks
+block_ended place s = space_ended place (address_put s)

@@ -1,6 +1,7 @@
 //! Parts and lines as they are held, and what is known of strings.
 ghost use Rattle.std.specs.Prelude.{◌≡◌, ◌+◌, ◌<◌, ◌≤◌, ◌^◌, IfOk, length};
 ghost use Rattle.tbl_blocks.specs.Blocks as specs;
+ghost use Rattle.tbl_blocks.specs.Extents as extents;
 
 use super::filling::{Measure, fill, longest};
 use super::parts::{Extent, Font, Known, Line, Part, Seen};
@@ -21,7 +22,7 @@ struct Measured {
 impl Measured {
     /// Nothing is.
     fn nothing() -> Measured
-        ensures { result ≡ specs.nothing_measured }
+        ensures { result ≡ extents.nothing_measured }
     {
         let extent = Extent {
             cells: 0,
@@ -32,7 +33,7 @@ impl Measured {
 
     /// With a unit that begins with a byte.
     fn extended(self, unit: Unit, byte: u8) -> Measured
-        ensures { result ≡ specs.extended unit byte self }
+        ensures { result ≡ extents.extended unit byte self }
     {
         let sure = unit.is_sure() && byte != b'\t';
         Measured {
@@ -46,7 +47,7 @@ impl Measured {
 
     /// With a byte that prints.
     fn widened(self) -> Measured
-        ensures { result ≡ specs.widened self }
+        ensures { result ≡ extents.widened self }
     {
         Measured {
             extent: Extent {
@@ -59,7 +60,7 @@ impl Measured {
 
     /// With a byte more, and what stands after it. One that prints as it is counts at once.
     fn with(self, byte: u8, rest: &[u8], strings: &[Known]) -> Measured
-        ensures { result ≡ specs.measured byte rest.now strings.now self }
+        ensures { result ≡ extents.measured byte rest.now strings.now self }
     {
         if self.more > 0 {
             return Measured {
@@ -201,7 +202,7 @@ impl Blocks {
 
     /// How many cells a text takes in one line.
     pub fn extent(&self, text: &[u8]) -> Extent
-        ensures { result ≡ specs.extent_of text.now self.now.strings.items }
+        ensures { result ≡ extents.extent_of text.now self.now.strings.items }
     {
         let strings = self.strings.as_slice();
         let mut measured = Measured::nothing();

@@ -5,9 +5,10 @@
 //! which say by number which parts they have. Parts and lines are held in `Blocks`, with the strings whose text is known.
 //!
 //! It stands on nr_units, nr_vectors and nr_settings. To read: `parts`, `filling`; `units`, `requests`, `arguments`, `reading`,
-//! `obeying`, `words`, `blocks`, `laws`.
+//! `obeying`, `addresses`, `words`, `blocks`, `laws`.
 #![tactic(auto)]
 
+mod addresses;
 mod arguments;
 mod blocks;
 mod filling;

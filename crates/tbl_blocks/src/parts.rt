@@ -47,6 +47,8 @@ pub struct Part {
     pub join: Join,
     /// How many cells a line is indented that begins with it, where the line before was full.
     pub indent: usize,
+    /// It stands in angle brackets, which are two of its cells.
+    pub bracketed: bool,
 }
 
 /// A line of a block: its parts, by number, and how it stands.
@@ -177,6 +179,7 @@ impl Part {
             font: Font::Roman,
             join: Join::Glued,
             indent: 0,
+            bracketed: false,
         }
     }
 }

@@ -2,6 +2,7 @@
 ghost use Rattle.std.specs.Prelude.{◌≡◌};
 ghost use Rattle.tbl_blocks.specs.Reading as specs;
 
+use super::addresses::Address;
 use super::parts::{Font, Join, Part, Seen};
 use super::units::{Does, Unit, is_letter, is_plain, is_stop};
 
@@ -77,6 +78,8 @@ pub(crate) struct Reading {
     pub once: Option<Font>,
     /// The next line is a tag, and text after it is indented so far.
     pub tag: Option<usize>,
+    /// An address stands after what is read.
+    pub address: Option<Address>,
     /// What stands before the next part.
     pub join: Join,
     /// What lines are indented.
@@ -215,6 +218,7 @@ impl Reading {
             face: Face::of(font),
             once: None,
             tag: None,
+            address: None,
             join: Join::Line {
                 space: 0,
                 indent: 0,
@@ -243,6 +247,7 @@ impl Reading {
             font: self.face.font,
             join: self.join,
             indent: self.margins.indent,
+            bracketed: false,
         }
     }
 

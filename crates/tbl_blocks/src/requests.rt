@@ -39,6 +39,10 @@ pub(crate) enum Request {
     Face(Font),
     /// Its words are joined, in these fonts in turn.
     Faces(Font, Font),
+    /// An address, the first word, that stands after a text.
+    Address,
+    /// The text ends, and the words follow its address.
+    AddressEnd,
     /// It defines what may print, or asks for it.
     Defines,
     /// It does nothing to words and lines here.
@@ -50,7 +54,7 @@ pub(crate) enum Request {
 }
 
 /// The requests by their two letters; a name of one letter has 0 as its second.
-static NAMES: [(u8, u8, Request); 61] = [
+static NAMES: [(u8, u8, Request); 65] = [
     (b'b', b'r', Request::Break),
     (b's', b'p', Request::Space),
     (b'n', b'a', Request::Ragged),
@@ -84,6 +88,10 @@ static NAMES: [(u8, u8, Request); 61] = [
     (b'I', b'B', Request::Faces(Font::Italic, Font::Bold)),
     (b'R', b'B', Request::Faces(Font::Roman, Font::Bold)),
     (b'R', b'I', Request::Faces(Font::Roman, Font::Italic)),
+    (b'U', b'R', Request::Address),
+    (b'M', b'T', Request::Address),
+    (b'U', b'E', Request::AddressEnd),
+    (b'M', b'E', Request::AddressEnd),
     (b'd', b's', Request::Defines),
     (b'a', b's', Request::Defines),
     (b'n', b'r', Request::Defines),

@@ -303,6 +303,11 @@ impl Blocks {
                 self.read_faces(text, place, manner);
             }
             Request::Item => self.read_item(text, place),
+            Request::Address => self.read_address(text, place),
+            Request::AddressEnd => {
+                self.put_address();
+                self.read_unknown(text, place);
+            }
             Request::Unknown => self.read_unknown(text, place),
             _ => self.reading = self.reading.obeyed(request, first_argument(text)),
         }
@@ -360,13 +365,21 @@ impl Blocks {
         }
     }
 
-    /// A block ends: empty lines at its end are a line without text.
-    pub(crate) fn end_block(&mut self, place: usize)
-        ensures { self.new ≡ specs.block_ended place self.old }
+    /// Empty lines at the end of a block are a line without text.
+    fn end_space(&mut self, place: usize)
+        ensures { self.new ≡ specs.space_ended place self.old }
     {
         let reading = self.reading;
         if reading.ends_in_space() {
             add_item(&mut self.parts, reading.space_part(place));
         }
+    }
+
+    /// A block ends.
+    pub(crate) fn end_block(&mut self, place: usize)
+        ensures { self.new ≡ specs.block_ended place self.old }
+    {
+        self.put_address();
+        self.end_space(place);
     }
 }

@@ -2,7 +2,7 @@
 -- covered by one field: that which begins there, the one to its left over which s goes on, or the one above that goes on downward.
 use Rattle.std.specs.Prelude.{ℕ, zero, suc, ◌+◌, ◌-◌, ◌*◌, min, Bool, true, false, ◌==◌, ◌&&◌, ◌||◌, not, nat_lt, length, if◌then◌else◌}
 use Rattle.tbl_blocks.specs.declared.parts.Extent.{Extent}
-use Rattle.tbl_blocks.specs.Blocks.{extent_of}
+use Rattle.tbl_blocks.specs.Extents.{extent_of}
 use Rattle.tbl_columns.specs.declared.grid.Cell.{Cell}
 use Rattle.tbl_columns.specs.declared.grid.Grid.{Grid}
 use Rattle.tbl_columns.specs.declared.grid.Placed.{Placed}

@@ -4,7 +4,7 @@
 -- them. Columns of e are as wide as the widest of them.
 use Rattle.std.specs.Prelude.{ℕ, zero, suc, ◌+◌, ◌-◌, ◌*◌, ◌/◌, min, max, Bool, true, false, ◌==◌, ◌&&◌, ◌||◌, not, nat_le, nat_lt, List, [], ◌∷◌, length, Option, None, Some, ℤ, pos, negsuc, if◌then◌else◌}
 use Rattle.nr_units.specs.declared.units.Scale.TheVariants.{En}
-use Rattle.tbl_blocks.specs.Blocks.{extent_of}
+use Rattle.tbl_blocks.specs.Extents.{extent_of}
 use Rattle.tbl_columns.specs.declared.grid.Cell.{Cell}
 use Rattle.tbl_columns.specs.declared.grid.Column.{Column}
 use Rattle.tbl_columns.specs.declared.grid.Grid.{Grid}

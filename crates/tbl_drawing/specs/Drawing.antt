@@ -20,6 +20,7 @@ use Rattle.tbl_drawing.specs.Held.{begin_line}
 use Rattle.tbl_drawing.specs.Pens as pens
 use Rattle.tbl_drawing.specs.Pens.{Stroke, Start, To, Bytes, Text, Pass}
 use Rattle.tbl_drawing.specs.Steps.{is_rule_item}
+use Rattle.tbl_drawing.specs.Writing.{text_if}
 use Rattle.tbl_table.specs.declared.table.Form.{Form}
 use Rattle.tbl_table.specs.declared.table.Form.TheVariants as forms
 use Rattle.tbl_table.specs.declared.table.Kind.{Kind}
@@ -152,8 +153,18 @@ part l n = get_or l.grid.blocks.parts.items n no_part
 abbrev pub span_of : Part → Span
 span_of p = record { start = p.start; «end» = p.«end» }
 
+-- an address stands in angle brackets
+abbrev pub bracketed : Bool → List ℕ → List ℕ
+bracketed is text = text_if is (codes "<") ++ text ++ text_if is (codes ">")
+
+abbrev pub first_bracketed : Bool → List ℕ → ℕ
+first_bracketed is text = if is then code "<" else first_byte text
+
+abbrev pub part_span : Layout → ℕ → List ℕ
+part_span l n = text_of l.grid.table (span_of (part l n))
+
 abbrev pub part_text : Layout → ℕ → List ℕ
-part_text l n = text_of l.grid.table (span_of (part l n))
+part_text l n = bracketed (part l n).bracketed (part_span l n)
 
 abbrev pub is_same_font : Font → Font → Bool
 is_same_font fonts.Roman fonts.Roman = true
@@ -202,7 +213,8 @@ line_text l line =
 
 abbrev pub first_of_line : Layout → Line → ℕ
 first_of_line l line =
-    if is_same_font (part l line.first).font fonts.Roman then first_byte (part_text l line.first) else code "\\"
+    if is_same_font (part l line.first).font fonts.Roman
+    then first_bracketed (part l line.first).bracketed (part_span l line.first) else code "\\"
 
 abbrev pub line_cells : Line → ℕ
 line_cells line = sum (line.cells - line.indent) line.lack

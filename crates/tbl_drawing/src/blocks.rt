@@ -72,6 +72,22 @@ fn more_in(part: Part, line: Line, gap: usize) -> usize
     }
 }
 
+/// The text of a part, in angle brackets or not.
+fn put_bracketed<W: Sink>(bracketed: bool, text: &[u8], out: &mut Out<'_, W>)
+    ensures { Draws out.old out.new (Bytes (specs.bracketed bracketed text.now) ∷ []) }
+{
+    out.ask_if(bracketed, b"<");
+    out.add(text);
+    out.ask_if(bracketed, b">");
+}
+
+/// The first byte of that.
+fn first_bracketed(bracketed: bool, text: &[u8]) -> u8
+    ensures { result ≡ specs.first_bracketed bracketed text.now }
+{
+    if bracketed { b'<' } else { first_byte(text) }
+}
+
 /// How many cells the parts of a line take, with the blanks that its gaps get more.
 fn line_cells(line: Line) -> usize
     ensures { result ≡ specs.line_cells line }
@@ -99,7 +115,7 @@ impl Layout {
     {
         let part = self.part(line.first);
         if is_same(part.font, Font::Roman) {
-            return first_byte(self.grid.table.bytes(span_of(part)));
+            return first_bracketed(part.bracketed, self.grid.table.bytes(span_of(part)));
         }
         b'\\'
     }
@@ -147,7 +163,7 @@ impl Layout {
         self.put_blanks_if(number, line, gap, out);
         let part = self.part(number);
         change_font(font, part.font, out);
-        out.add(self.grid.table.bytes(span_of(part)));
+        put_bracketed(part.bracketed, self.grid.table.bytes(span_of(part)), out);
     }
 
     /// The parts of a line; tells the font in which they end.

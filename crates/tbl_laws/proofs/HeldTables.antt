@@ -6,7 +6,7 @@ use Rattle.std.proofs.Math.Seq.{get_or-append-add, get_or-append_seam}
 use Rattle.std.proofs.lemmas.Bool.{le-leb, leb-true}
 use Rattle.std.proofs.lemmas.Bool.Decides.{nat_tests}
 use Rattle.tbl_blocks.specs.declared.parts.Known.{Known}
-use Rattle.tbl_blocks.specs.Blocks.{extended, extent_of, measured, measured_from, nothing_measured}
+use Rattle.tbl_blocks.specs.Extents.{extended, extent_of, measured, measured_from, nothing_measured}
 use Rattle.tbl_blocks.specs.Units.{byte_does, escape, is_letter, is_stop, is_sure}
 use Rattle.tbl_columns.specs.declared.grid.Grid.{Grid}
 use Rattle.tbl_columns.specs.Cells.{field_given}

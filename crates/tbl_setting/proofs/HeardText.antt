@@ -2,7 +2,7 @@
 use Rattle.std.proofs.Common.{◌≡◌, ℕ, List, [], ◌∷◌, length, Bool, true, false, not, ◌==◌, ◌||◌, if◌then◌else◌, nat_lt, drop, refl, sym, ◌∙◌, ap, subst}
 use Rattle.std.specs.Prelude.{None, Option, Some, ℤ}
 use Prim.Native.Char.{code}
-use Rattle.tbl_blocks.specs.Blocks.{extent_of}
+use Rattle.tbl_blocks.specs.Extents.{extent_of}
 use Rattle.tbl_blocks.specs.declared.parts.Known.{Known}
 use Rattle.tbl_columns.specs.declared.grid.Grid.{Grid}
 use Rattle.tbl_columns.specs.Registers.{counted, number_in, register_set, set_in, set_to}

@@ -5,7 +5,7 @@ use Rattle.std.specs.Prelude.{ℕ, ◌+◌, ◌-◌, Bool, true, false, not, ◌
 use Prim.Native.Char.{code}
 use Rattle.nr_vectors.specs.Items.{Items}
 use Rattle.tbl_blocks.specs.declared.parts.Known.{Known}
-use Rattle.tbl_blocks.specs.Blocks.{extent_of}
+use Rattle.tbl_blocks.specs.Extents.{extent_of}
 use Rattle.tbl_blocks.specs.Words.{name_of, request_in}
 use Rattle.tbl_columns.specs.declared.grid.Grid.{Grid}
 use Rattle.tbl_columns.specs.declared.grid.Room.{Room}

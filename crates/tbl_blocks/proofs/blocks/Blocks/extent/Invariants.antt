@@ -1,5 +1,5 @@
 use Rattle.std.proofs.Common.{◌≡◌, drop}
-use Rattle.tbl_blocks.specs.Blocks.{measured_from, nothing_measured}
+use Rattle.tbl_blocks.specs.Extents.{measured_from, nothing_measured}
 use Rattle.tbl_blocks.proofs.blocks.Blocks.extent.Given as goal
 
 abbrev pub invariant-loop-at : goal.invariant-loop-at
