@@ -1,3 +1,4 @@
+pub mod AsBox
 mod CodedRun
 mod FormattingRun
 mod OwnRun

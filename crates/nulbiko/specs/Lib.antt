@@ -8,3 +8,4 @@ pub mod Tbl
 pub mod Utf8
 pub mod Printed
 pub mod Document
+pub mod Keeping

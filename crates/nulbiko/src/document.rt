@@ -88,7 +88,7 @@ fn are_numbers(table: u32, form: u32) -> bool
 }
 
 /// The formatter's limits, where all that is asked for is in its range.
-fn limits_of(setup: &DocumentSetup) -> Option<Limits>
+pub(crate) fn limits_of(setup: &DocumentSetup) -> Option<Limits>
     ensures ranges { IsSome result ↔ IsAllowed setup.now }
     ensures value { IfSome result (λ limits. limits ≡ bounds_of setup.now.limits) }
 {

@@ -2,7 +2,7 @@
 //! preconv_converter, mdoc_converter, tbl_setting and utf8_converter. `include/nulbiko.h` declares them for C.
 //!
 //! It stands on these, document_reader, utf8_own_page, utf8_own_characters, document_stages, tbl_reader, preconv_coding, utf8_characters, nr_options, nr_vectors and nr_units. To read: `text`,
-//! `coded`, `pages`; `reported`, `tables`; `formatting`; `preconv`, `mdoc`, `tbl`, `utf8`; `printed`, `document`, `own`.
+//! `coded`, `pages`; `reported`, `tables`; `formatting`; `preconv`, `mdoc`, `tbl`, `utf8`; `printed`, `document`, `own`; `kept`, `parts`, `handle`, `opened`.
 //!
 //! Proved: The library for C. Its contracts are those of its calls `nulbiko_NAME_lent`; those of the header,
 //! `nulbiko_NAME`, are C (include/nulbiko.c; in the plain build Rust, tools/library/nulbiko_c): they test for null
@@ -13,9 +13,13 @@
 mod coded;
 mod document;
 mod formatting;
+mod handle;
+mod kept;
 mod mdoc;
+mod opened;
 mod own;
 mod pages;
+mod parts;
 mod preconv;
 mod printed;
 mod reported;
@@ -26,4 +30,6 @@ mod utf8;
 
 pub use document::{DocumentOptions, DocumentSetup, TableLimits};
 pub use formatting::{TextLimits, TextOptions};
+pub use handle::Handle;
+pub use kept::Kept;
 pub use reported::Report;
