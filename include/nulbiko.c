@@ -2,6 +2,7 @@
  * null pointer. Compile it and link it before libnulbiko.a of crates/nulbiko. The workspace that tools/plain writes has the
  * same in crates/nulbiko_c. */
 #include "nulbiko.h"
+#include <stdlib.h>
 
 /* The structs of the calls that are proved. */
 struct limits {
@@ -39,6 +40,17 @@ struct document_setup {
 uint32_t nulbiko_document_lent(const struct document_setup *setup, const uint8_t *macros, size_t macros_length,
                                const uint8_t *page, size_t page_length, uint8_t *output, size_t capacity,
                                struct reported *reported);
+
+/* What is kept: a null pointer, or one of nulbiko_open_lent. */
+struct handle {
+    void *at;
+};
+
+uint32_t nulbiko_open_lent(const struct document_setup *setup, const uint8_t *macros, size_t macros_length,
+                           struct handle *handle);
+uint32_t nulbiko_run_lent(struct handle *handle, const uint8_t *page, size_t page_length, uint8_t *output, size_t capacity,
+                          struct reported *reported);
+void nulbiko_close_lent(struct handle *handle);
 
 uint32_t nulbiko_format_lent(const struct limits *limits, const struct options *options, const uint8_t *input,
                              size_t length, uint8_t *output, size_t capacity, struct reported *reported);
@@ -88,15 +100,18 @@ static enum nulbiko_outcome ended(uint32_t outcome, const struct reported *repor
     return (enum nulbiko_outcome)outcome;
 }
 
-enum nulbiko_outcome nulbiko_document(const struct nulbiko_limits *limits, const struct nulbiko_document_options *options,
-                                      const void *input, size_t length, void *output, size_t capacity,
-                                      struct nulbiko_report *report)
+/* How a page is set, and the macros before it. */
+struct asked {
+    struct document_setup setup;
+    const uint8_t *macros;
+    size_t macros_length;
+    uint8_t none;
+};
+
+/* Looks at what a page is asked to be set by; NULBIKO_DONE where it may be passed. */
+static enum nulbiko_outcome ask(struct asked *asked, const struct nulbiko_limits *limits,
+                                const struct nulbiko_document_options *options)
 {
-    struct passed passed;
-    struct reported reported;
-    enum nulbiko_outcome looked = look(&passed, input, length, output, capacity, report);
-    if (looked != NULBIKO_DONE)
-        return looked;
     if (!limits || !options)
         return NULBIKO_NULL;
     if (limits->size != sizeof *limits || options->size != sizeof *options)
@@ -114,10 +129,76 @@ enum nulbiko_outcome nulbiko_document(const struct nulbiko_limits *limits, const
          options->mdoc,
          options->tables},
     };
-    const uint8_t *macros = options->macros ? (const uint8_t *)options->macros : &passed.none;
-    uint32_t outcome = nulbiko_document_lent(&setup, macros, options->macros_length, passed.input, length, passed.output,
-                                             capacity, &reported);
+    asked->setup = setup;
+    asked->none = 0;
+    asked->macros = options->macros ? (const uint8_t *)options->macros : &asked->none;
+    asked->macros_length = options->macros_length;
+    return NULBIKO_DONE;
+}
+
+enum nulbiko_outcome nulbiko_document(const struct nulbiko_limits *limits, const struct nulbiko_document_options *options,
+                                      const void *input, size_t length, void *output, size_t capacity,
+                                      struct nulbiko_report *report)
+{
+    struct passed passed;
+    struct asked asked;
+    struct reported reported;
+    enum nulbiko_outcome looked = look(&passed, input, length, output, capacity, report);
+    if (looked == NULBIKO_DONE)
+        looked = ask(&asked, limits, options);
+    if (looked != NULBIKO_DONE)
+        return looked;
+    uint32_t outcome = nulbiko_document_lent(&asked.setup, asked.macros, asked.macros_length, passed.input, length,
+                                             passed.output, capacity, &reported);
     return ended(outcome, &reported, report);
+}
+
+struct nulbiko_handle {
+    struct handle lent;
+};
+
+enum nulbiko_outcome nulbiko_open(const struct nulbiko_limits *limits, const struct nulbiko_document_options *options,
+                                  struct nulbiko_handle **handle)
+{
+    struct asked asked;
+    if (!handle)
+        return NULBIKO_NULL;
+    *handle = NULL;
+    enum nulbiko_outcome looked = ask(&asked, limits, options);
+    if (looked != NULBIKO_DONE)
+        return looked;
+    struct nulbiko_handle *opened = malloc(sizeof *opened);
+    if (!opened)
+        return NULBIKO_OUT_OF_MEMORY;
+    opened->lent.at = NULL;
+    uint32_t outcome = nulbiko_open_lent(&asked.setup, asked.macros, asked.macros_length, &opened->lent);
+    if (outcome == NULBIKO_DONE)
+        *handle = opened;
+    else
+        free(opened);
+    return (enum nulbiko_outcome)outcome;
+}
+
+enum nulbiko_outcome nulbiko_run(struct nulbiko_handle *handle, const void *input, size_t length, void *output,
+                                 size_t capacity, struct nulbiko_report *report)
+{
+    struct passed passed;
+    struct reported reported;
+    enum nulbiko_outcome looked = look(&passed, input, length, output, capacity, report);
+    if (looked != NULBIKO_DONE)
+        return looked;
+    if (!handle)
+        return NULBIKO_NULL;
+    uint32_t outcome = nulbiko_run_lent(&handle->lent, passed.input, length, passed.output, capacity, &reported);
+    return ended(outcome, &reported, report);
+}
+
+void nulbiko_close(struct nulbiko_handle *handle)
+{
+    if (!handle)
+        return;
+    nulbiko_close_lent(&handle->lent);
+    free(handle);
 }
 
 enum nulbiko_outcome nulbiko_format(const struct nulbiko_limits *limits, const struct nulbiko_options *options,

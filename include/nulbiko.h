@@ -2,7 +2,8 @@
  *
  *     cc page.c $(pkg-config --cflags --libs nulbiko)
  *
- * nulbiko_document prints a whole page, from its source to a terminal's UTF-8. The calls after it are its stages, one by one.
+ * nulbiko_document prints a whole page, from its source to a terminal's UTF-8; nulbiko_open, nulbiko_run and nulbiko_close do
+ * so for many pages that are set alike. The calls after them are its stages, one by one.
  *
  * The library comes with the package, and from the workspace that tools/plain writes: target/release/libnulbiko.so and
  * libnulbiko.a. Over the library that is proved (`rt lib` in crates/nulbiko) include/nulbiko.c has these calls.
@@ -16,11 +17,12 @@
  *
  * Units. Lengths, and places in a text, are bytes. Cells are columns of the terminal.
  *
- * Threads. Calls share nothing: any number may run at once, each with an output and a report of its own. Not for
- * signal handlers, since a call allocates.
+ * Threads. Calls share nothing: any number may run at once, each with an output and a report of its own. A handle may go
+ * from thread to thread, and is used by one call at a time. Not for signal handlers, since a call allocates.
  *
  * Memory. A call takes what its limits say and room for the output, and gives all of it back. It writes no file,
- * reads none, prints nothing, ends no process and keeps nothing.
+ * reads none, prints nothing and ends no process. What nulbiko_open keeps, nulbiko_close gives back; no other call keeps
+ * anything.
  *
  * Time. Every call ends. `moves` is how many moves or steps it made; nulbiko_tbl counts none. nulbiko_document and
  * nulbiko_format make at most as many as the limit `moves` says, and at most 256 * (expansions + 1) * (stored + cells +
@@ -174,6 +176,22 @@ struct nulbiko_report {
 enum nulbiko_outcome nulbiko_document(const struct nulbiko_limits *limits, const struct nulbiko_document_options *options,
                                       const void *input, size_t length, void *output, size_t capacity,
                                       struct nulbiko_report *report);
+
+/* What is kept for many pages that are set alike: how they are set, and a copy of the macros. */
+struct nulbiko_handle;
+
+/* Opens a handle. At another outcome than NULBIKO_DONE it is null: NULBIKO_OUT_OF_RANGE, NULBIKO_NULL,
+ * NULBIKO_OUT_OF_MEMORY. Limits, options and macros may be gone afterwards. */
+enum nulbiko_outcome nulbiko_open(const struct nulbiko_limits *limits, const struct nulbiko_document_options *options,
+                                  struct nulbiko_handle **handle);
+
+/* Prints a page as nulbiko_document does with the limits and the options that the handle was opened with, whatever it printed
+ * before. Whatever the outcome is, the handle serves for the next page. NULBIKO_NULL where the handle is null. */
+enum nulbiko_outcome nulbiko_run(struct nulbiko_handle *handle, const void *input, size_t length, void *output,
+                                 size_t capacity, struct nulbiko_report *report);
+
+/* Closes a handle, which is gone then. Nothing is done where it is null. */
+void nulbiko_close(struct nulbiko_handle *handle);
 
 /* The table that a page takes, by the first 65,536 bytes of its text, read under its coding as nulbiko_preconv reads it:
  * never NULBIKO_LATIN1. NULBIKO_UNCHOSEN where malloc gave no memory, NULBIKO_NO_TABLE where the pointer of a text that has

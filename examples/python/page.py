@@ -1,7 +1,7 @@
 #!/usr/bin/env python3
-"""Formats a stranger's manual page by libnulbiko, under limits.
+"""Formats strangers' manual pages by libnulbiko, under limits.
 
-  page.py PAGE
+  page.py PAGE ..
 
 It needs the wheel that tools/package makes.
 """
@@ -9,10 +9,15 @@ import sys
 
 import nulbiko
 
-NAME = sys.argv[1]
-with open(NAME, 'rb') as file:
-    try:
-        sys.stdout.buffer.write(nulbiko.page(file.read(), width=78).encode())
-    except nulbiko.Stopped as stopped:
-        sys.stdout.buffer.write(stopped.made.encode())
-        sys.exit(f'{NAME}: {stopped}')
+STATUS = 0
+with nulbiko.Handle(nulbiko.MAN, width=78, limits=nulbiko.LIMITS_OF_STRANGERS) as handle:
+    for name in sys.argv[1:]:
+        with open(name, 'rb') as file:
+            text = file.read()
+        try:
+            sys.stdout.buffer.write(handle.run(text))
+        except nulbiko.Stopped as stopped:
+            sys.stdout.buffer.write(stopped.made)
+            print(f'{name}: {stopped}', file=sys.stderr)
+            STATUS = 1
+sys.exit(STATUS)

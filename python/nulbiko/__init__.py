@@ -4,15 +4,17 @@
     print(nulbiko.page(open('ls.1', 'rb').read(), width=78))
 
 Where a limit would be passed `page` raises `Stopped`, which has the limit, its place and line, and what was formatted before.
-`page` is `document` after the macros of manual pages; what that does in one call stands here by itself too. The calls are
-those of libnulbiko, by ctypes: any number may run at once, and Python's other threads run meanwhile.
+`page` is `document` after the macros of manual pages; what that does in one call stands here by itself too, and `Handle` is for
+many pages that are set alike. The calls are those of libnulbiko, by ctypes: any number may run at once, and Python's other
+threads run meanwhile.
 """
 import ctypes
 import os
+import threading
 from ctypes import byref, c_bool, c_char_p, c_int64, c_size_t, c_uint32, c_uint64, c_void_p, sizeof
 
-__all__ = ['FORMS', 'LIMITS', 'LIMITS_OF_STRANGERS', 'MAN', 'TABLES', 'Stopped', 'choose', 'document', 'format', 'mdoc', 'page',
-           'preconv', 'tbl', 'utf8', 'version']
+__all__ = ['FORMS', 'LIMITS', 'LIMITS_OF_STRANGERS', 'MAN', 'TABLES', 'Handle', 'Stopped', 'choose', 'document', 'format', 'mdoc',
+           'page', 'preconv', 'tbl', 'utf8', 'version']
 
 # The limits of `document` and `format`: nroff's own, and those for a stranger's page, which ends after seconds.
 LIMITS = {'stored': 262144, 'depth': 256, 'cells': 65536, 'expansions': 1000000, 'moves': 2**64 - 1}
@@ -56,7 +58,7 @@ class Stopped(Exception):
     """A call did not do all.
 
     `call` is its name, `outcome` the outcome's, `limit` the name of the limit that would be passed or None, `at` how many
-    bytes of the call's text had been taken, and `made` what was whole before: of `page` a str, else bytes. Of `document` and
+    bytes of the call's text had been taken, and `made` what was whole before: of `page` a str, else bytes. Of `document`, `run` and
     `page` the place is counted in what the formatter reads after the macros, and 0 in these, and `line` is the line of the
     page that was read last. Of other calls it is 0.
     """
@@ -75,11 +77,13 @@ def _library():
     path = os.path.join(HERE, 'libnulbiko.so')
     library = ctypes.CDLL(path if os.path.exists(path) else 'libnulbiko.so.0')
     places = [c_char_p, c_size_t, c_void_p, c_size_t, c_void_p]
-    firsts = {'document': [c_void_p, c_void_p], 'format': [c_void_p, c_void_p], 'mdoc': [], 'preconv': [c_uint32], 'tbl': [c_uint32, c_size_t],
-              'utf8': [c_uint32, c_bool]}
+    firsts = {'document': [c_void_p, c_void_p], 'run': [c_void_p], 'format': [c_void_p, c_void_p], 'mdoc': [], 'preconv': [c_uint32],
+              'tbl': [c_uint32, c_size_t], 'utf8': [c_uint32, c_bool]}
     for name, first in firsts.items():
         call = getattr(library, f'nulbiko_{name}')
         call.argtypes, call.restype = first + places, c_uint32
+    library.nulbiko_open.argtypes, library.nulbiko_open.restype = [c_void_p] * 3, c_uint32
+    library.nulbiko_close.argtypes, library.nulbiko_close.restype = [c_void_p], None
     library.nulbiko_choose.argtypes, library.nulbiko_choose.restype = [c_char_p, c_size_t], c_uint32
     library.nulbiko_version.argtypes, library.nulbiko_version.restype = [], c_char_p
     for name in 'outcome', 'limit':
@@ -140,6 +144,17 @@ def version():
     return _LIBRARY.nulbiko_version().decode()
 
 
+def _asked(macros, width, limits, first, table, form, bold, long_page, mdoc, tables):
+    """The limits and the options of a page as the library has them, once they are looked at."""
+    for name, number, most in ('width', width, 2**32), ('first', abs(first), 2**31):
+        _look(name, number, most)
+    lent, macros = _limits(limits), bytes(memoryview(macros))
+    number = CHOSEN if table == 'chosen' else TABLES[table]
+    options = _DocumentOptions(sizeof(_DocumentOptions), macros, len(macros), first, width, number, FORMS[form], bold, long_page,
+                               mdoc, tables, *HELD)
+    return lent, options
+
+
 def document(text, macros=b'', width=78, limits=LIMITS, first=1, table='chosen', form='utf8', bold=False, long_page=True,
              mdoc=True, tables=True):
     """Prints a whole page after its macros, as `MAN`: `mdoc`, `preconv`, `tbl`, `format` and `utf8` in one call, over the text of
@@ -149,13 +164,50 @@ def document(text, macros=b'', width=78, limits=LIMITS, first=1, table='chosen',
     gives where it is nothing else, or in UTF-8 one of the page's own, where that lacks a letter of the page; without one (None) the form is 'bytes'. What `form` may be is in `FORMS`. `bold` is that of
     `format`. With `long_page` it is one page; with `mdoc` a page of mdoc(7) is turned; with `tables` tables are set.
     """
-    for name, number, most in ('width', width, 2**32), ('first', abs(first), 2**31):
-        _look(name, number, most)
-    lent, macros = _limits(limits), bytes(memoryview(macros))
-    number = CHOSEN if table == 'chosen' else TABLES[table]
-    options = _DocumentOptions(sizeof(_DocumentOptions), macros, len(macros), first, width, number, FORMS[form], bold, long_page,
-                               mdoc, tables, *HELD)
+    lent, options = _asked(macros, width, limits, first, table, form, bold, long_page, mdoc, tables)
     return _made('document', [byref(lent), byref(options)], text)
+
+
+class Handle:
+    """Many pages that are set alike, after the same macros.
+
+        with nulbiko.Handle(nulbiko.MAN, width=78) as handle:
+            text = handle.run(page)
+
+    What it is opened with is that of `document`, and `run` prints what `document` prints with that. After a page that stopped it
+    serves for the next. Threads may share it, and wait for one another.
+    """
+
+    def __init__(self, macros=b'', width=78, limits=LIMITS, first=1, table='chosen', form='utf8', bold=False, long_page=True,
+                 mdoc=True, tables=True):
+        self._open, self._alone = c_void_p(), threading.Lock()
+        lent, options = _asked(macros, width, limits, first, table, form, bold, long_page, mdoc, tables)
+        outcome = _LIBRARY.nulbiko_open(byref(lent), byref(options), byref(self._open))
+        if outcome != DONE:
+            raise Stopped('open', _LIBRARY.nulbiko_outcome_name(outcome).decode(), None, 0, b'')
+
+    def run(self, text):
+        """Prints a page."""
+        with self._alone:
+            if not self._open:
+                raise ValueError('the handle is closed')
+            return _made('run', [self._open], text)
+
+    def close(self):
+        """Gives the memory back. It may be called again."""
+        with self._alone:
+            _LIBRARY.nulbiko_close(self._open)
+            self._open = c_void_p()
+
+    def __enter__(self):
+        return self
+
+    def __exit__(self, *why):
+        self.close()
+
+    def __del__(self):
+        if hasattr(self, '_open'):
+            self.close()
 
 
 def choose(text):

@@ -1,4 +1,4 @@
-/* Formats pages on threads, and tells pages a second and memory.
+/* Formats pages on threads, each with a handle of its own, and tells pages a second and memory.
  *
  *   bench THREADS TMAC PAGE ..
  */
@@ -8,23 +8,16 @@
 #include <stdatomic.h>
 #include <stdio.h>
 #include <stdlib.h>
-#include <string.h>
 #include <sys/resource.h>
 #include <time.h>
 
 enum { MOST = 1 << 23 };
 
 static const struct nulbiko_limits limits = NULBIKO_LIMITS_OF_STRANGERS;
-static const struct nulbiko_options options = NULBIKO_OPTIONS;
-static char head[1 << 20];
-static size_t head_length;
+static struct nulbiko_document_options options = NULBIKO_DOCUMENT_OPTIONS;
 static char **pages;
 static int count;
 static atomic_int next_page, ended[NULBIKO_TOO_LONG + 1];
-
-struct buffers {
-    char *page, *turned, *whole, *out;
-};
 
 static char *buffer(void)
 {
@@ -46,25 +39,16 @@ static size_t read_file(const char *name, char *bytes, size_t most)
     return length;
 }
 
-static enum nulbiko_outcome format_page(const char *name, struct buffers *b)
-{
-    struct nulbiko_report report = NULBIKO_REPORT;
-    size_t length = read_file(name, b->page, MOST);
-    enum nulbiko_outcome outcome = nulbiko_preconv(NULBIKO_NO_TABLE, b->page, length, b->turned, MOST, &report);
-    if (outcome != NULBIKO_DONE)
-        return outcome;
-    outcome = nulbiko_tbl(NULBIKO_NO_TABLE, 78, b->turned, report.written, b->whole + head_length, MOST - head_length, &report);
-    if (outcome != NULBIKO_DONE)
-        return outcome;
-    return nulbiko_format(&limits, &options, b->whole, head_length + report.written, b->out, MOST, &report);
-}
-
 static void *work(void *nothing)
 {
-    struct buffers b = {buffer(), buffer(), buffer(), buffer()};
-    memcpy(b.whole, head, head_length);
+    struct nulbiko_report report = NULBIKO_REPORT;
+    struct nulbiko_handle *handle;
+    char *page = buffer(), *out = buffer();
+    if (nulbiko_open(&limits, &options, &handle) != NULBIKO_DONE)
+        exit(5);
     for (int at = next_page++; at < count; at = next_page++)
-        ended[format_page(pages[at], &b)]++;
+        ended[nulbiko_run(handle, page, read_file(pages[at], page, MOST), out, MOST, &report)]++;
+    nulbiko_close(handle);
     return nothing;
 }
 
@@ -80,8 +64,8 @@ int main(int words, char **word)
     int threads = words > 3 ? atoi(word[1]) : 0;
     if (threads < 1 || threads > 64)
         return 2;
-    head_length = (size_t)sprintf(head, ".nr C 1\n.nr L 78\n");
-    head_length += read_file(word[2], head + head_length, sizeof head - head_length);
+    options.macros = buffer();
+    options.macros_length = read_file(word[2], (char *)options.macros, MOST);
     pages = word + 3;
     count = words - 3;
     pthread_t thread[64];

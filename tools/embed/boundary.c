@@ -98,6 +98,30 @@ static void null_of_documents(void)
     judge("document: no macros", document(&plain, set, text, sizeof out) == NULBIKO_NULL && nothing_done());
 }
 
+static void null_of_handles(void)
+{
+    struct nulbiko_document_options set = plainly();
+    struct nulbiko_handle *handle = (struct nulbiko_handle *)out;
+    judge("open: no limits", nulbiko_open(NULL, &set, &handle) == NULBIKO_NULL && !handle);
+    judge("open: no options", nulbiko_open(&plain, NULL, &handle) == NULBIKO_NULL && !handle);
+    judge("open: no handle", nulbiko_open(&plain, &set, NULL) == NULBIKO_NULL);
+    set.macros_length = 1;
+    judge("open: no macros", nulbiko_open(&plain, &set, &handle) == NULBIKO_NULL && !handle);
+    prepare();
+    judge("run: no handle", nulbiko_run(NULL, text, 1, out, 9, &report) == NULBIKO_NULL && nothing_done());
+    nulbiko_close(NULL);
+    set = plainly();
+    judge("open: no macros, none needed", nulbiko_open(&plain, &set, &handle) == NULBIKO_DONE && handle);
+    prepare();
+    judge("run: no text", nulbiko_run(handle, NULL, 1, out, 9, &report) == NULBIKO_NULL && nothing_done());
+    prepare();
+    judge("run: no output", nulbiko_run(handle, text, 1, NULL, 9, &report) == NULBIKO_NULL && nothing_done());
+    judge("run: no report", nulbiko_run(handle, text, 1, out, 9, NULL) == NULBIKO_NULL);
+    prepare();
+    judge("run: 0 and 0", nulbiko_run(handle, NULL, 0, NULL, 0, &report) == NULBIKO_DONE && put_out(""));
+    nulbiko_close(handle);
+}
+
 static void null_pointers(void)
 {
     prepare();
@@ -176,6 +200,24 @@ static void ranges(void)
     }
     const struct nulbiko_limits least = {SIZE, 64, 1, 1, 1, 64};
     judge("format: the least limits", format(&least, text, sizeof out) != NULBIKO_OUT_OF_RANGE);
+}
+
+/* What is out of range opens no handle. */
+static void ranges_of_handles(void)
+{
+    struct nulbiko_document_options set = plainly();
+    struct nulbiko_limits limits = plain;
+    struct nulbiko_handle *handle = (struct nulbiko_handle *)out;
+    limits.depth = 0;
+    judge("open: a limit out of range", nulbiko_open(&limits, &set, &handle) == NULBIKO_OUT_OF_RANGE && !handle);
+    limits = plain;
+    limits.size = 0;
+    judge("open: limits of another size", nulbiko_open(&limits, &set, &handle) == NULBIKO_OUT_OF_RANGE && !handle);
+    set.size = 0;
+    judge("open: options of another size", nulbiko_open(&plain, &set, &handle) == NULBIKO_OUT_OF_RANGE && !handle);
+    set = plainly();
+    set.form = NULBIKO_UTF8;
+    judge("open: no such table and form", nulbiko_open(&plain, &set, &handle) == NULBIKO_OUT_OF_RANGE && !handle);
 }
 
 /* A struct of another size is refused. */
@@ -392,6 +434,56 @@ static void limits_of_documents(void)
 }
 
 /* A text of which no call has a copy where memory is short. */
+/* What a handle prints is what the page's call prints, by the limits, the options and the macros that it was opened with. */
+static bool runs_alike(struct nulbiko_handle *handle, const struct nulbiko_limits *limits, struct nulbiko_document_options set,
+                       const char *page, size_t capacity)
+{
+    static char wanted[sizeof out];
+    enum nulbiko_outcome outcome = document(limits, set, page, capacity);
+    struct nulbiko_report reported = report;
+    memcpy(wanted, out, sizeof out);
+    prepare();
+    return nulbiko_run(handle, page, strlen(page), out, capacity, &report) == outcome && !memcmp(&reported, &report, sizeof report) &&
+           !memcmp(wanted, out, sizeof out);
+}
+
+static void handles(void)
+{
+    struct nulbiko_limits limits = NULBIKO_LIMITS_OF_STRANGERS;
+    struct nulbiko_document_options set = NULBIKO_DOCUMENT_OPTIONS;
+    char macros[] = ".de XX\n[\\\\$1]\n..\n.ds a b\n";
+    struct nulbiko_handle *handle = NULL, *other = NULL;
+    set.macros = macros;
+    set.macros_length = strlen(macros);
+    set.width = 20;
+    judge("open: it opens", nulbiko_open(&limits, &set, &handle) == NULBIKO_DONE && handle);
+    const char *pages[] = {
+        ".XX a\n",                                          /* by its macros */
+        ".de XX\nother\n..\n.XX a\n.ds a c\n\\*a\n",        /* which it defines anew */
+        ".XX b\n\\*a\n",                                   /* and has again */
+        ".de YY\n.YY\n..\n.YY\n",                           /* a limit */
+        ".TS\nbox;\nl l.\na\tb\n.TE\n",                     /* a table */
+        "\xe6\x97\xa5\xe6\x9c\xac\n.TS\nbox;\nl.\na\n.TE\n", /* a table of its own */
+        "\xd0\xb4\xd0\xb0\n",
+        ".nf\n.ll 200\n.de ZZ\n",
+        "",
+    };
+    for (int round = 0; round < 2; round++)
+        for (size_t i = 0; i < sizeof pages / sizeof *pages; i++) {
+            judge("run: a page", runs_alike(handle, &limits, set, pages[i], sizeof out));
+            judge("run: full", runs_alike(handle, &limits, set, pages[i], 3));
+        }
+    struct nulbiko_document_options bytes = plainly();
+    judge("open: another", nulbiko_open(&plain, &bytes, &other) == NULBIKO_DONE && other != handle);
+    judge("run: by the other", runs_alike(other, &plain, bytes, text, sizeof out) && report.written == 4);
+    nulbiko_close(other);
+    memset(macros, '#', sizeof macros); /* it has a copy */
+    prepare();
+    judge("run: after its macros are gone",
+          nulbiko_run(handle, ".XX a\n", 6, out, sizeof out, &report) == NULBIKO_DONE && report.written > 3 && !memcmp(out, "[a]", 3));
+    nulbiko_close(handle);
+}
+
 static char long_text[1 << 26];
 
 /* Last, since it takes the program's memory away. */
@@ -404,6 +496,16 @@ static void no_memory(void)
     judge("format: out of memory", format(&large, text, sizeof out) == NULBIKO_OUT_OF_MEMORY && nothing_done());
     judge("document: out of memory", document(&large, plainly(), text, sizeof out) == NULBIKO_OUT_OF_MEMORY && nothing_done());
     judge("choose: out of memory", nulbiko_choose(long_text, sizeof long_text) == NULBIKO_UNCHOSEN);
+    struct nulbiko_document_options set = plainly();
+    struct nulbiko_handle *handle = NULL, *none = (struct nulbiko_handle *)out;
+    set.macros = long_text;
+    set.macros_length = sizeof long_text;
+    judge("open: out of memory", nulbiko_open(&plain, &set, &none) == NULBIKO_OUT_OF_MEMORY && !none);
+    set.macros_length = 0;
+    judge("open: enough for no macros", nulbiko_open(&large, &set, &handle) == NULBIKO_DONE && handle);
+    prepare();
+    judge("run: out of memory", nulbiko_run(handle, text, strlen(text), out, sizeof out, &report) == NULBIKO_OUT_OF_MEMORY && nothing_done());
+    nulbiko_close(handle);
     judge("document: enough again", document(&plain, plainly(), text, sizeof out) == NULBIKO_DONE && put_out("a\nb\n"));
     judge("format: enough again", format(&plain, text, sizeof out) == NULBIKO_DONE && put_out("a\nb\n"));
 }
@@ -411,13 +513,16 @@ static void no_memory(void)
 int main(void)
 {
     null_of_documents();
+    null_of_handles();
     null_pointers();
     ranges();
+    ranges_of_handles();
     sizes();
     names();
     outcomes();
     documents();
     limits_of_documents();
+    handles();
     no_memory();
     printf("boundary: %d passed, %d failed\n", passed, failed);
     return failed != 0;

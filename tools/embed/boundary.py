@@ -63,6 +63,30 @@ def documents():
     judge('document: pages', len(nulbiko.document(text, nulbiko.MAN, long_page=False).split(b'\n')) == 67)
 
 
+def handles():
+    """A handle prints what `document` prints."""
+    text, other = PAGE.encode(), '.TH B 1\n.SH NAME\nb \\- 日本\n'.encode()
+    with nulbiko.Handle(nulbiko.MAN, width=60, limits=nulbiko.LIMITS_OF_STRANGERS) as handle:
+        wanted = {page: nulbiko.document(page, nulbiko.MAN, 60, nulbiko.LIMITS_OF_STRANGERS) for page in (text, other, b'')}
+        for page in [*wanted] * 2:
+            judge('handle: a page', handle.run(page) == wanted[page])
+            error = stopped(handle.run, ENDLESS.encode())
+            judge('handle: an endless page', error and (error.call, error.limit, error.line) == ('run', 'input depth', 7))
+        made = []
+        threads = [threading.Thread(target=lambda: made.append(handle.run(text))) for _ in range(8)]
+        for thread in threads:
+            thread.start()
+        for thread in threads:
+            thread.join()
+        judge('handle: threads', made == [wanted[text]] * 8)
+    handle.close()
+    refused('handle: closed', ValueError, handle.run, text)
+    error = stopped(nulbiko.Handle, table=None)
+    judge('handle: UTF-8 without a table', error and (error.call, error.outcome) == ('open', 'out of range'))
+    for named in {'width': -1}, {'limits': {}}, {'nonesuch': 1}:
+        refused(f'handle: {named}', (TypeError, ValueError), nulbiko.Handle, **named)
+
+
 def codings():
     coded = '.\\" -*- coding: koi8-r -*-\nда\n'.encode('koi8-r')
     judge('choose: under its coding', nulbiko.choose(coded) == 'cyrillic')
@@ -109,6 +133,7 @@ def refusals():
 
 pages()
 documents()
+handles()
 codings()
 limits()
 refusals()

@@ -9,14 +9,13 @@ use std::alloc::Global;
 use std::marker::Model;
 use std::mem::replace;
 
-/// What is kept between calls, or nothing. For C it is a pointer to bytes that are nobody else's: no type with a vector in it
-/// may be named there.
+/// What is kept between calls, or nothing. C is passed a pointer to bytes, since no type that has a vector may cross to it.
 #[repr(C)]
 #[derive(Drop)]
 pub struct Handle {
     at: *mut u8,
     alloc: Global,
-    pub(crate) ghost kept: { Option Kept } by { kept_coded },
+    pub ghost kept: { Option Kept } by { kept_coded },
 }
 
 impl Model for Handle {

@@ -9,7 +9,7 @@ use std::marker::Model;
 pub(crate) struct Parts<T, A: Allocator> {
     pub(crate) at: *mut T,
     pub(crate) alloc: A,
-    pub(crate) ghost value: { T },
+    pub ghost value: { T },
 }
 
 impl<T, A: Allocator> Model for Parts<T, A> {

@@ -32,7 +32,7 @@ pub struct Made {
 }
 
 /// Calls with an output that is doubled as long as it is too small.
-fn made(
+pub(crate) fn made(
     call: &'static str,
     text: &[u8],
     mut run: impl FnMut(&mut [u8], &mut Report) -> u32,
@@ -64,7 +64,7 @@ fn made(
 }
 
 /// What was made, where nothing of tables is reported.
-fn plain((bytes, report): (Vec<u8>, Report)) -> Made {
+pub(crate) fn plain((bytes, report): (Vec<u8>, Report)) -> Made {
     Made { bytes, moves: report.moves, wrong: None, dropped: report.dropped }
 }
 
@@ -76,14 +76,8 @@ impl Limits {
     }
 }
 
-/// Prints a whole page after its macros, as [`MAN`](crate::MAN): [`mdoc()`], [`preconv`], [`tbl`], [`format()`] and [`utf8`] in one
-/// call, over the text of the page under its coding.
-///
-/// # Errors
-///
-/// Where a limit would be passed, is out of range, there isn't enough memory, or more than 64 MiB come out. The place of a
-/// limit is counted in what the formatter reads after the macros, and 0 where it is in them.
-pub fn document(limits: &Limits, options: &Options, macros: &[u8], text: &[u8]) -> Result<Made, Stopped> {
+/// How a page is set, as the library below has it.
+pub(crate) fn setup_of(limits: &Limits, options: &Options) -> DocumentSetup {
     let Options { first, width, characters, form, bold, long_page: long, mdoc, tables, held } = *options;
     let [formats, row, page] = held;
     let table = match characters {
@@ -91,7 +85,7 @@ pub fn document(limits: &Limits, options: &Options, macros: &[u8], text: &[u8]) 
         Characters::Of(table) => table as u32,
         Characters::Ascii => 0,
     };
-    let setup = DocumentSetup {
+    DocumentSetup {
         limits: limits.lent(),
         tables: TableLimits { formats, row, page },
         options: DocumentOptions {
@@ -103,7 +97,18 @@ pub fn document(limits: &Limits, options: &Options, macros: &[u8], text: &[u8]) 
             mdoc,
             tables,
         },
-    };
+    }
+}
+
+/// Prints a whole page after its macros, as [`MAN`](crate::MAN): [`mdoc()`], [`preconv`], [`tbl`], [`format()`] and [`utf8`] in one
+/// call, over the text of the page under its coding.
+///
+/// # Errors
+///
+/// Where a limit would be passed, is out of range, there isn't enough memory, or more than 64 MiB come out. The place of a
+/// limit is counted in what the formatter reads after the macros, and 0 where it is in them.
+pub fn document(limits: &Limits, options: &Options, macros: &[u8], text: &[u8]) -> Result<Made, Stopped> {
+    let setup = setup_of(limits, options);
     made("document", text, |output, report| nulbiko_document_lent(Global, &setup, macros, text, output, report)).map(plain)
 }
 

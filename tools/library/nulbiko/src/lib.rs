@@ -17,18 +17,20 @@
 //! ```
 //!
 //! [`page`] is [`document`] after the macros of manual pages. What that does in one call stands here by itself too, as the
-//! programs of the same names do it: [`choose`], [`mdoc()`], [`preconv`], [`tbl`], [`format()`] and [`utf8`]. All of them take a
-//! text and give another. They share nothing and keep
-//! nothing, open no file, print nothing, and never panic: any number may run at once.
+//! programs of the same names do it: [`choose`], [`mdoc()`], [`preconv`], [`tbl`], [`format()`] and [`utf8`]; and [`Handle`] is
+//! `document` for many pages. All of them take a text and give another. They share nothing, open no file, print nothing, and
+//! never panic: any number may run at once.
 //!
 //! The code is that of Nulbiko's programs, without the contracts by which it is proved; `lent` is the library below, over
 //! buffers of a caller's.
 
 mod calls;
+mod handle;
 mod page;
 mod words;
 
 pub use calls::{Made, choose, document, format, mdoc, preconv, tbl, utf8};
+pub use handle::Handle;
 pub use page::{MAN, WIDTHS, page, page_within};
 pub use words::{Characters, Form, Limit, Limits, Options, Stopped, Table, Why, Wrong};
 

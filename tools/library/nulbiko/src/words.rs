@@ -246,11 +246,11 @@ pub enum Why {
 /// A call didn't do all.
 #[derive(Clone, Debug, PartialEq, Eq)]
 pub struct Stopped {
-    /// The call: `document`, `mdoc`, `preconv`, `tbl`, `format`, `utf8` or `page`.
+    /// The call: `document`, `run`, `open`, `mdoc`, `preconv`, `tbl`, `format`, `utf8` or `page`.
     pub call: &'static str,
     /// Why it stopped.
     pub why: Why,
-    /// Of `document`: the line of the page that was read last, counted from 1. Else 0.
+    /// Of `document` and `run`: the line of the page that was read last, counted from 1. Else 0.
     pub line: u64,
     /// What was whole before.
     pub bytes: Vec<u8>,

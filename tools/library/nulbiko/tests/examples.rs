@@ -1,6 +1,6 @@
 //! The examples of nroff, through the library: each input gives the pages that it must give.
 
-use nulbiko::{Form, Limits, Options, Stopped, Why};
+use nulbiko::{Form, Handle, Limits, MAN, Options, Stopped, Why};
 use std::fs;
 use std::path::{Path, PathBuf};
 
@@ -31,6 +31,22 @@ fn a_page_is_stopped_at_its_limits() {
     };
     assert!(at > 0 && at <= page.len() as u64, "the place is {at}");
     assert_eq!(line, 7);
+}
+
+#[test]
+fn a_handle_prints_what_a_document_is() {
+    let limits = Limits::OF_STRANGERS;
+    let mut handle = Handle::open(&limits, &Options::PAGE, MAN).expect("a handle");
+    for text in [WHOLE, b".de XX\n.XX\n..\n.XX\n", "日本\n".as_bytes(), b"", WHOLE] {
+        match (handle.run(text), nulbiko::document(&limits, &Options::PAGE, MAN, text)) {
+            (Ok(made), Ok(wanted)) => assert_eq!(made, wanted),
+            (Err(stopped), Err(wanted)) => assert_eq!(stopped, Stopped { call: "run", ..wanted }),
+            (made, wanted) => panic!("{made:?} in place of {wanted:?}"),
+        }
+    }
+    let none = Handle::open(&Limits { depth: 0, ..limits }, &Options::PAGE, MAN).unwrap_err();
+    assert_eq!((none.call, none.why), ("open", Why::OutOfRange));
+    std::thread::spawn(move || handle.run(WHOLE).map(drop)).join().expect("a thread").expect("a page");
 }
 
 /// A page with a table, characters and a macro of its own.

@@ -1,10 +1,11 @@
 //! The calls that include/nulbiko.h declares. Each looks at what C passes, and calls its fellow of nulbiko_lent.
 
+mod handle;
 mod names;
 mod structs;
 
 use kit::alloc::Global;
-use nulbiko_lent::Report as Reported;
+use nulbiko_lent::{DocumentSetup, Report as Reported};
 use nulbiko_lent::document::nulbiko_document_lent;
 use nulbiko_lent::formatting::nulbiko_format_lent;
 use nulbiko_lent::mdoc::nulbiko_mdoc_lent;
@@ -60,6 +61,35 @@ impl Passed {
     }
 }
 
+/// How a page is set and the macros before it, as C passes them, or what is wrong with that.
+///
+/// # Safety
+///
+/// Each pointer is null or leads to as much as C said.
+unsafe fn asked<'a>(
+    limits: *const Limits,
+    options: *const DocumentOptions,
+) -> Result<(DocumentSetup, &'a [u8]), u32> {
+    if limits.is_null() || options.is_null() {
+        return Err(NULL);
+    }
+    // Sound: each begins with its size.
+    let (Some(limits), Some(options)) = (unsafe { Limits::read(limits) }, unsafe { DocumentOptions::read(options) })
+    else {
+        return Err(OUT_OF_RANGE);
+    };
+    let DocumentOptions { macros, macros_length, .. } = options;
+    if macros.is_null() && macros_length > 0 {
+        return Err(NULL);
+    }
+    if macros_length > isize::MAX as usize {
+        return Err(TOO_LONG);
+    }
+    // Sound: a text of no bytes may be null, and so its pointer isn't taken.
+    let macros = if macros_length == 0 { &[][..] } else { unsafe { from_raw_parts(macros, macros_length) } };
+    Ok((options.under(limits), macros))
+}
+
 /// Prints a whole page.
 ///
 /// # Safety
@@ -76,24 +106,12 @@ pub unsafe extern "C" fn nulbiko_document(
     report: *mut Report,
 ) -> u32 {
     let passed = Passed { input, length, output, capacity, report };
-    // Sound: as the header asks for; each begins with its size.
-    unsafe {
-        if limits.is_null() || options.is_null() {
-            return passed.call(|_, _, _| NULL);
-        }
-        let (Some(limits), Some(options)) = (Limits::read(limits), DocumentOptions::read(options)) else {
-            return passed.call(|_, _, _| OUT_OF_RANGE);
-        };
-        let DocumentOptions { macros, macros_length, .. } = options;
-        if macros.is_null() && macros_length > 0 {
-            return passed.call(|_, _, _| NULL);
-        }
-        if macros_length > isize::MAX as usize {
-            return passed.call(|_, _, _| TOO_LONG);
-        }
-        let macros = if macros_length == 0 { &[][..] } else { from_raw_parts(macros, macros_length) };
-        let setup = options.under(limits);
-        passed.call(|page, output, reported| nulbiko_document_lent(Global, &setup, macros, page, output, reported))
+    // Sound: as the header asks for.
+    match unsafe { asked(limits, options) } {
+        Ok((setup, macros)) => unsafe {
+            passed.call(|page, output, reported| nulbiko_document_lent(Global, &setup, macros, page, output, reported))
+        },
+        Err(outcome) => unsafe { passed.call(|_, _, _| outcome) },
     }
 }
 

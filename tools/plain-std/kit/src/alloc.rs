@@ -12,6 +12,11 @@ impl From<TryReserveError> for AllocError {
     }
 }
 
+/// What memory is taken from.
+pub trait Allocator {}
+
 /// The memory of the system.
 #[derive(Clone, Copy, Debug)]
 pub struct Global;
+
+impl Allocator for Global {}

@@ -3,7 +3,7 @@
 //!
 //! What is the same in both is Rust's own.
 
-pub use std::{cell, cmp, error, mem, ops};
+pub use std::{cell, cmp, error, mem, ops, ptr};
 
 pub mod alloc;
 mod boxed;
