@@ -501,6 +501,13 @@ static void no_memory(void)
     set.macros = long_text;
     set.macros_length = sizeof long_text;
     judge("open: out of memory", nulbiko_open(&plain, &set, &none) == NULBIKO_OUT_OF_MEMORY && !none);
+    bool given_back = true;
+    set.macros_length = 1 << 22;
+    for (int i = 0; i < 64; i++) {
+        given_back = nulbiko_open(&plain, &set, &none) == NULBIKO_DONE && given_back;
+        nulbiko_close(none);
+    }
+    judge("close: the memory is given back", given_back);
     set.macros_length = 0;
     judge("open: enough for no macros", nulbiko_open(&large, &set, &handle) == NULBIKO_DONE && handle);
     prepare();
