@@ -61,6 +61,7 @@ fn report_of(pulled: Pulled) -> Report
 /// and of the page that the next move ends did.
 /// Proved: Where what goes out of a table at once has no room, the pages went out that had ended by then, over what
 /// went out of tables before.
+/// Proved: A desk keeps its limits, so that one serves for many pages. (`desk` of `print` and `print_shown`)
 /// Proved: Of a page that breaks off after so many bytes the same is true over what the stages make of these bytes, but
 /// for what is half read. (`cut` of `print`)
 pub fn print<R: Source + Drop, W: Sink>(
@@ -84,6 +85,8 @@ pub fn print<R: Source + Drop, W: Sink>(
         Prints (setting_of setup.now (bounds_in rooms.old) desk.old)
         (source_so_far (setting_of setup.now (bounds_in rooms.old) desk.old) (take n q.bytes))
         result.moves result.outcome (W.held output.old) (W.held output.new) }
+    // The desk serves for the next page.
+    ensures desk { desk.new ≡ desk.old }
     // A write fault is reported where a put failed, and nowhere else.
     ensures write_faults { TellsWrites result.outcome (W.failures output.old).puts (W.failures output.new).puts }
 {

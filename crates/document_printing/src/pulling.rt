@@ -55,6 +55,7 @@ pub(crate) fn pull<R: Source + Drop, W: Sink>(
         (broken_off (plain_so_far setup.now.stages setup.now.characters (take n q.bytes)))))
         result.moves result.outcome (W.held output.old) (W.held output.new) }
     ensures no_tables { result.tables.full ≡ false }
+    ensures desk { desk.new ≡ desk.old }
     ensures write_faults { W.failures output.new ≡ put_counted_if (is_write_fault result.outcome) (W.failures output.old) }
 {
     let mut places = Places::new();

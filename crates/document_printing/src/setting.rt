@@ -40,6 +40,7 @@ pub(crate) fn pull_set<R: Source + Drop, W: Sink>(
         Answers desk.old (start desk.old setup.now.options.now (preceded setup.now.macros.now
         (set_text (bounds_in rooms.old) (broken_off (plain_so_far setup.now.stages setup.now.characters (take n q.bytes))))))
         result.moves result.outcome (W.held output.old) (W.held output.new) }
+    ensures desk { desk.new ≡ desk.old }
     ensures write_faults { W.failures output.new ≡ put_counted_if (is_write_fault result.outcome) (W.failures output.old) }
 {
     let mut places = Places::new();

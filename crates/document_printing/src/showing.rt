@@ -107,6 +107,8 @@ pub fn print_shown<R: Source + Drop, W: Sink>(
         Shows (setting_of showing.now.setup (bounds_in rooms.old) desk.old) showing.now.spelling
         (source_so_far (setting_of showing.now.setup (bounds_in rooms.old) desk.old) (take n q.bytes))
         result.1.moves result.1.outcome (W.held output) (W.held result.0) }
+    // The desk serves for the next page.
+    ensures desk { desk.new ≡ desk.old }
     // A write fault is reported where a put failed, and nowhere else.
     ensures write_faults { (q : Supply) → R.supply input ≡ Some q → breaks_off q.faults ≡ false →
         IsShort q.bytes (man_of showing.now.setup.stages.mdoc q.bytes) →
