@@ -177,7 +177,7 @@ enum nulbiko_outcome nulbiko_document(const struct nulbiko_limits *limits, const
                                       const void *input, size_t length, void *output, size_t capacity,
                                       struct nulbiko_report *report);
 
-/* What is kept for many pages that are set alike: how they are set, and a copy of the macros. */
+/* What is kept for many pages that are set alike: how they are set, a copy of the macros, and the memory of the formatter. */
 struct nulbiko_handle;
 
 /* Opens a handle. At another outcome than NULBIKO_DONE it is null: NULBIKO_OUT_OF_RANGE, NULBIKO_NULL,

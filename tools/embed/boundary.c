@@ -509,9 +509,13 @@ static void no_memory(void)
     }
     judge("close: the memory is given back", given_back);
     set.macros_length = 0;
-    judge("open: enough for no macros", nulbiko_open(&large, &set, &handle) == NULBIKO_DONE && handle);
+    judge("open: no memory for the limits", nulbiko_open(&large, &set, &none) == NULBIKO_OUT_OF_MEMORY && !none);
+    judge("open: enough for no macros", nulbiko_open(&plain, &set, &handle) == NULBIKO_DONE && handle);
     prepare();
-    judge("run: out of memory", nulbiko_run(handle, text, strlen(text), out, sizeof out, &report) == NULBIKO_OUT_OF_MEMORY && nothing_done());
+    judge("run: out of memory",
+          nulbiko_run(handle, long_text, sizeof long_text, out, sizeof out, &report) == NULBIKO_OUT_OF_MEMORY && nothing_done());
+    prepare();
+    judge("run: enough again", nulbiko_run(handle, text, strlen(text), out, sizeof out, &report) == NULBIKO_DONE && put_out("a\nb\n"));
     nulbiko_close(handle);
     judge("document: enough again", document(&plain, plainly(), text, sizeof out) == NULBIKO_DONE && put_out("a\nb\n"));
     judge("format: enough again", format(&plain, text, sizeof out) == NULBIKO_DONE && put_out("a\nb\n"));

@@ -8,14 +8,15 @@ use Rattle.std.specs.Box.Ownership.{box_owns}
 use Rattle.std.specs.Global.{Global}
 use Rattle.std_heap.specs.contracts.GlobalAllocator.TheImpl.{ghosts}
 use Rattle.nulbiko.specs.Document.{IsAllowed}
+use Rattle.nulbiko.specs.Formatting.{bounds_of}
 use Rattle.nulbiko.specs.declared.document.DocumentSetup.{DocumentSetup}
 use Rattle.nulbiko.specs.declared.kept.Kept.{Kept}
 use Rattle.nulbiko.specs.contracts.kept.Kept.{the_row}
 
--- this setup, whose numbers are in range, and these macros
+-- this setup, whose numbers are in range, these macros, and a desk under its limits
 abbrev pub Keeps : Option Kept → DocumentSetup → List ℕ → Type 0
 Keeps None setup macros = ⊥
-Keeps (Some kept) setup macros = IsAllowed setup × (kept.setup ≡ setup) × (kept.macros.items ≡ macros)
+Keeps (Some kept) setup macros = IsAllowed setup × (kept.setup ≡ setup) × (kept.macros.items ≡ macros) × (kept.memory.desk ≡ bounds_of setup.limits)
 
 -- the memory of what is kept, as a box of it does
 abbrev pub handle_owns : Global → Ptr → Option Kept → Fml

@@ -1,7 +1,6 @@
 // A whole page is printed in one call: through mdoc, characters and tables, after its macros.
 ghost use Rattle.std.specs.Prelude.{◌≡◌, ◌≢◌, ◌↔◌, ◌+◌, [], Some, drop, length, IfOk, IfSome, IsSome};
 ghost use Rattle.preconv_coding.specs.UnderCoding.{text_of};
-ghost use Rattle.nr_machine.specs.Lengths.{sizes_of, sum_of};
 ghost use Rattle.document_reader.specs.Page.{IsShort, man_of};
 ghost use Rattle.tbl_setting.specs.Drawing.{signs_of};
 ghost use Rattle.tbl_stage.specs.Memory.{memory_of};
@@ -22,7 +21,7 @@ use super::tables::table_of;
 use super::utf8::look;
 use arrayvec::ArrayVec;
 use document_printing::{PageLimits, Rooms, Setup, Stages};
-use nr_engine::{CountedAlloc, Desk, Limits, Options};
+use nr_engine::{CountedAlloc, Limits, Options};
 use nr_options::MOST_REGISTERS;
 use nr_units::sink::Sink;
 use preconv_converter::Target;
@@ -169,19 +168,25 @@ pub(crate) fn table_limits(asked: TableLimits, sets: bool) -> PageLimits
     }
 }
 
-/// What a page is printed with.
+/// How a page is set, and the macros that stand before it.
+#[derive(Clone, Copy)]
+pub(crate) struct Asked<'a> {
+    pub setup: &'a DocumentSetup,
+    pub macros: &'a [u8],
+}
+
+/// What a page is printed with beside the memory that is kept.
 struct Prepared {
     /// Its tables are set.
     sets: bool,
     characters: Option<FixedTable>,
     pages: Pages,
-    memory: Memory,
+    rooms: Rooms,
 }
 
 /// Takes the memory for a page with these characters, of which so many bytes may go out.
 fn prepare(
     alloc: &mut CountedAlloc,
-    limits: Limits,
     setup: &DocumentSetup,
     page: &[u8],
     characters: Option<FixedTable>,
@@ -190,40 +195,40 @@ fn prepare(
     ensures sets { IfOk result (λ made. made.sets ≡ sets_of setup.now page.now) }
     ensures characters { IfOk result (λ made. made.characters ≡ characters) }
     ensures pages { IfOk result (λ made. ⟦<Pages as Sink>⟧.held made.pages ≡ Some []) }
-    ensures limits { IfOk result (λ made. made.memory.desk ≡ limits) }
-    ensures tables { IfOk result (λ made. bounds_in made.memory.rooms
+    ensures tables { IfOk result (λ made. bounds_in made.rooms
         ≡ tables_by setup.now made.sets (signs_of made.characters)) }
-    ensures taken { IfOk result (λ made. alloc.new ≡ alloc.old + sum_of (sizes_of limits) + room
+    ensures taken { IfOk result (λ made. alloc.new ≡ alloc.old + room
         + memory_of (specs.page_limits setup.now.tables made.sets)) }
 {
     let sets = sets_tables(setup, page);
     let tables = table_limits(setup.tables, sets);
-    let desk = Desk::new(alloc, limits)?;
     let pages = Pages::new(alloc, room)?;
     let rooms = Rooms::new(alloc, tables, setup.options.width as usize, characters)?;
     Ok(Prepared {
         sets,
         characters,
         pages,
-        memory: Memory { rooms, desk },
+        rooms,
     })
 }
 
 /// Prints a page with what was prepared, hands its pages over and gives the number of the outcome.
 fn print_document(
     prepared: Prepared,
-    setup: &DocumentSetup,
-    macros: &[u8],
+    memory: &mut Memory,
+    asked: Asked<'_>,
     page: &[u8],
     output: &mut [u8],
     reported: &mut Report,
 ) -> u32
-    ensures printed { prepared.sets ≡ sets_of setup.now page.now → prepared.characters ≡ table_for setup.now.options.table page.now →
+    ensures printed { prepared.sets ≡ sets_of asked.entry.setup.now page.now →
+        prepared.characters ≡ table_for asked.entry.setup.now.options.table page.now →
         ⟦<Pages as Sink>⟧.held prepared.pages ≡ Some [] →
-        prepared.memory.desk ≡ bounds_of setup.now.limits →
-        bounds_in prepared.memory.rooms ≡ tables_by setup.now prepared.sets (signs_of prepared.characters) →
-        IsShort page.now (man_of setup.now.options.mdoc page.now) →
-        PrintsDocument setup.now macros.now page.now output.new reported.new result }
+        memory.old.desk ≡ bounds_of asked.entry.setup.now.limits →
+        bounds_in prepared.rooms ≡ tables_by asked.entry.setup.now prepared.sets (signs_of prepared.characters) →
+        IsShort page.now (man_of asked.entry.setup.now.options.mdoc page.now) →
+        PrintsDocument asked.entry.setup.now asked.entry.macros.now page.now output.new reported.new result }
+    ensures desk { memory.new.desk ≡ memory.old.desk }
     ensures not_range { result ≢ 2 }
     ensures not_memory { result ≢ 5 }
     ensures rest { drop reported.new.written output.new ≡ drop reported.new.written output.old }
@@ -232,8 +237,10 @@ fn print_document(
         sets,
         characters,
         pages,
-        mut memory,
+        rooms,
     } = prepared;
+    let Asked { setup, macros } = asked;
+    memory.rooms = rooms;
     let options = options_for(setup.options);
     let form = form_of(setup.options.form, characters);
     let target = Target::of(characters);
@@ -247,7 +254,7 @@ fn print_document(
         characters: target,
         options: &options,
     };
-    let (pages, printed) = print_pages(page, form, &set, &mut memory, pages);
+    let (pages, printed) = print_pages(page, form, &set, memory, pages);
     let Setup {
         macros: _,
         stages: _,
@@ -283,6 +290,47 @@ pub(crate) fn asks_for_own(setup: &DocumentSetup, text: &[u8]) -> bool
     ensures { result ≡ asks_for_own setup.now text.now }
 {
     setup.options.table == CHOSEN && setup.options.form != 0 && may_need_own(text)
+}
+
+/// Prints a page in this memory, and gives the number of the outcome.
+pub(crate) fn print_in(
+    alloc: Global,
+    memory: &mut Memory,
+    asked: Asked<'_>,
+    page: &[u8],
+    output: &mut [u8],
+    reported: &mut Report,
+) -> u32
+    ensures printed { memory.old.desk ≡ bounds_of asked.entry.setup.now.limits → result ≢ 5 → AreShort asked.entry.setup.now (text_of page.now)
+        → PrintsPage asked.entry.setup.now asked.entry.macros.now (text_of page.now) output.new reported.new result }
+    ensures desk { memory.new.desk ≡ memory.old.desk }
+    ensures not_range { result ≢ 2 }
+    ensures no_memory { result ≡ 5 → (output.new ≡ output.old) × (reported.new ≡ nothing_reported) }
+    ensures rest { drop reported.new.written output.new ≡ drop reported.new.written output.old }
+{
+    *reported = Report::nothing();
+    let setup = asked.setup;
+    let Ok(text) = text_of(alloc, page) else {
+        return OUT_OF_MEMORY;
+    };
+    let Ok(characters) = table_for(alloc, setup.options.table, &text) else {
+        return OUT_OF_MEMORY;
+    };
+    let Ok(own) = own_cells(alloc, setup, &text, characters) else {
+        return OUT_OF_MEMORY;
+    };
+    let mut counted = CountedAlloc::new(alloc);
+    let room = output.len();
+    match own {
+        Some(cells) => match prepare_own(&mut counted, setup, &text, cells, room) {
+            Ok(prepared) => print_own(prepared, memory, asked, &text, output, reported),
+            Err(_) => OUT_OF_MEMORY,
+        },
+        None => match prepare(&mut counted, setup, &text, characters, room) {
+            Ok(prepared) => print_document(prepared, memory, asked, &text, output, reported),
+            Err(_) => OUT_OF_MEMORY,
+        },
+    }
 }
 
 /// Prints a page after macros, under limits, into a buffer, reports how it went, and gives the number of the outcome: 0 done,
@@ -321,25 +369,9 @@ pub extern "C" fn nulbiko_document_lent(
     let Some(limits) = limits_of(setup) else {
         return OUT_OF_RANGE;
     };
-    let Ok(text) = text_of(alloc, page) else {
+    let Ok(mut memory) = Memory::new(&mut CountedAlloc::new(alloc), limits) else {
         return OUT_OF_MEMORY;
     };
-    let Ok(characters) = table_for(alloc, setup.options.table, &text) else {
-        return OUT_OF_MEMORY;
-    };
-    let Ok(own) = own_cells(alloc, setup, &text, characters) else {
-        return OUT_OF_MEMORY;
-    };
-    let mut counted = CountedAlloc::new(alloc);
-    let room = output.len();
-    match own {
-        Some(cells) => match prepare_own(&mut counted, limits, setup, &text, cells, room) {
-            Ok(prepared) => print_own(prepared, setup, macros, &text, output, reported),
-            Err(_) => OUT_OF_MEMORY,
-        },
-        None => match prepare(&mut counted, limits, setup, &text, characters, room) {
-            Ok(prepared) => print_document(prepared, setup, macros, &text, output, reported),
-            Err(_) => OUT_OF_MEMORY,
-        },
-    }
+    let asked = Asked { setup, macros };
+    print_in(alloc, &mut memory, asked, page, output, reported)
 }

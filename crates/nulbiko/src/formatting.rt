@@ -112,7 +112,7 @@ pub(crate) fn options_of(asked: TextOptions) -> Options
 /// Formats the text in a desk, hands its pages over and gives the number of the outcome.
 ///
 /// Proved: A call takes as many elements of memory as its limits and the caller's buffer ask for, by the count of the
-/// allocator. (`taken` of `format_text`, of `set_tables` in tbl.rt and of `prepare` in document.rt)
+/// allocator. (`taken` of `format_text`, of `set_tables` in tbl.rt, of `Memory::new` in printed.rt and of `prepare` in document.rt)
 fn run_desk(
     alloc: &mut CountedAlloc,
     desk: &mut Desk,

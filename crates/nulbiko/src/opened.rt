@@ -7,7 +7,7 @@ ghost use Rattle.nulbiko.specs.Keeping.{Keeps};
 ghost use Rattle.nulbiko.specs.Own.{AreShort, PrintsPage};
 ghost use Rattle.nulbiko.specs.Reported.{nothing_reported};
 
-use super::document::{DocumentSetup, limits_of, nulbiko_document_lent};
+use super::document::{DocumentSetup, limits_of};
 use super::handle::Handle;
 use super::kept::Kept;
 use super::reported::{DONE, OUT_OF_MEMORY, OUT_OF_RANGE, Report};
@@ -30,10 +30,10 @@ pub extern "C" fn nulbiko_open_lent(
     ensures opened { result ≡ 0 → Keeps handle.new.kept setup.now macros.now }
     ensures refused { result ≢ 0 → handle.new.kept ≡ None }
 {
-    if limits_of(setup).is_none() {
+    let Some(limits) = limits_of(setup) else {
         return OUT_OF_RANGE;
-    }
-    match Kept::of(alloc, setup, macros) {
+    };
+    match Kept::of(alloc, setup, limits, macros) {
         Ok(kept) => {
             handle.keep(kept);
             DONE
@@ -61,12 +61,13 @@ pub extern "C" fn nulbiko_run_lent(
         → result ≢ 5 → AreShort setup (text_of page.now)
         → PrintsPage setup macros (text_of page.now) output.new reported.new result }
     ensures in_range { (setup : setups.DocumentSetup) → (macros : List ℕ) → Keeps handle.old.kept setup macros → result ≢ 2 }
-    ensures keeps { handle.new.kept ≡ handle.old.kept }
+    ensures keeps { (setup : setups.DocumentSetup) → (macros : List ℕ) → Keeps handle.old.kept setup macros → Keeps handle.new.kept setup macros }
+    ensures open { handle.new.kept ≢ None }
     ensures no_memory { result ≡ 5 → (output.new ≡ output.old) × (reported.new ≡ nothing_reported) }
     ensures rest { drop reported.new.written output.new ≡ drop reported.new.written output.old }
 {
-    let kept = handle.take(alloc);
-    let code = nulbiko_document_lent(alloc, &kept.setup, &kept.macros, page, output, reported);
+    let mut kept = handle.take(alloc);
+    let code = kept.print(alloc, page, output, reported);
     handle.keep(kept);
     code
 }

@@ -1,6 +1,5 @@
 // A page that has characters which no fixed table has is printed with a table of its own.
 ghost use Rattle.std.specs.Prelude.{◌≡◌, ◌≢◌, ◌+◌, [], Some, drop, true, IfOk};
-ghost use Rattle.nr_machine.specs.Lengths.{sizes_of, sum_of};
 ghost use Rattle.tbl_stage.specs.Memory.{memory_of};
 ghost use Rattle.tbl_stage.specs.Text.{bounds_in};
 ghost use Rattle.utf8_own_characters.specs.Counting.{is_once};
@@ -15,7 +14,7 @@ ghost use Rattle.nulbiko.specs.Own as specs;
 ghost use Rattle.nulbiko.specs.Own.{HasOwn, IsShortIf, LookIsShort, OwnIsShort, PrintsOwn};
 
 use super::document::{
-    DocumentSetup, asks_for_own, options_for, sets_tables, stages_of, table_limits,
+    Asked, DocumentSetup, asks_for_own, options_for, sets_tables, stages_of, table_limits,
 };
 use super::pages::{Pages, hand_over};
 use super::printed::{Memory, code, print_coded, report_of};
@@ -23,7 +22,7 @@ use super::reported::{Report, code_within};
 use super::text::Text;
 use document_printing::{Rooms, Setup, Stages};
 use document_reader::{Places, read_page};
-use nr_engine::{CountedAlloc, Desk, Limits};
+use nr_engine::CountedAlloc;
 use nr_units::sink::Sink;
 use preconv_converter::Target;
 use std::alloc::{AllocError, Global};
@@ -85,13 +84,12 @@ pub(crate) struct Prepared {
     sets: bool,
     cells: Cells,
     pages: Pages,
-    memory: Memory,
+    rooms: Rooms,
 }
 
 /// Takes the memory for a page with these characters, of which so many bytes may go out.
 pub(crate) fn prepare(
     alloc: &mut CountedAlloc,
-    limits: Limits,
     setup: &DocumentSetup,
     text: &[u8],
     cells: Cells,
@@ -100,40 +98,39 @@ pub(crate) fn prepare(
     ensures sets { IfOk result (λ made. made.sets ≡ sets_of setup.now text.now) }
     ensures cells { IfOk result (λ made. made.cells ≡ cells) }
     ensures pages { IfOk result (λ made. ⟦<Pages as Sink>⟧.held made.pages ≡ Some []) }
-    ensures limits { IfOk result (λ made. made.memory.desk ≡ limits) }
-    ensures tables { IfOk result (λ made. bounds_in made.memory.rooms
-        ≡ tables_by setup.now made.sets (bounds_in made.memory.rooms).tables.signs) }
-    ensures taken { IfOk result (λ made. alloc.new ≡ alloc.old + sum_of (sizes_of limits) + room
+    ensures tables { IfOk result (λ made. bounds_in made.rooms
+        ≡ tables_by setup.now made.sets (bounds_in made.rooms).tables.signs) }
+    ensures taken { IfOk result (λ made. alloc.new ≡ alloc.old + room
         + memory_of (page_limits setup.now.tables made.sets)) }
 {
     let sets = sets_tables(setup, text);
     let tables = table_limits(setup.tables, sets);
     let signs = signs_of(&cells.table());
-    let desk = Desk::new(alloc, limits)?;
     let pages = Pages::new(alloc, room)?;
     let rooms = Rooms::drawn_with(alloc, tables, setup.options.width as usize, signs)?;
     Ok(Prepared {
         sets,
         cells,
         pages,
-        memory: Memory { rooms, desk },
+        rooms,
     })
 }
 
 /// Prints a page with a table of its own, hands its pages over and gives the number of the outcome.
 pub(crate) fn print_own(
     prepared: Prepared,
-    setup: &DocumentSetup,
-    macros: &[u8],
+    memory: &mut Memory,
+    asked: Asked<'_>,
     text: &[u8],
     output: &mut [u8],
     reported: &mut Report,
 ) -> u32
-    ensures printed { prepared.sets ≡ sets_of setup.now text.now →
-        ⟦<Pages as Sink>⟧.held prepared.pages ≡ Some [] → prepared.memory.desk ≡ bounds_of setup.now.limits →
-        bounds_in prepared.memory.rooms ≡ tables_by setup.now prepared.sets (bounds_in prepared.memory.rooms).tables.signs →
-        prepared.cells ≡ ranked (specs.counts_for setup.now text.now) → OwnIsShort setup.now text.now →
-        PrintsOwn setup.now macros.now text.now output.new reported.new result }
+    ensures printed { prepared.sets ≡ sets_of asked.entry.setup.now text.now →
+        ⟦<Pages as Sink>⟧.held prepared.pages ≡ Some [] → memory.old.desk ≡ bounds_of asked.entry.setup.now.limits →
+        bounds_in prepared.rooms ≡ tables_by asked.entry.setup.now prepared.sets (bounds_in prepared.rooms).tables.signs →
+        prepared.cells ≡ ranked (specs.counts_for asked.entry.setup.now text.now) → OwnIsShort asked.entry.setup.now text.now →
+        PrintsOwn asked.entry.setup.now asked.entry.macros.now text.now output.new reported.new result }
+    ensures desk { memory.new.desk ≡ memory.old.desk }
     ensures not_range { result ≢ 2 }
     ensures not_memory { result ≢ 5 }
     ensures rest { drop reported.new.written output.new ≡ drop reported.new.written output.old }
@@ -142,8 +139,10 @@ pub(crate) fn print_own(
         sets,
         cells,
         pages,
-        mut memory,
+        rooms,
     } = prepared;
+    let Asked { setup, macros } = asked;
+    memory.rooms = rooms;
     let options = options_for(setup.options);
     let set = Setup {
         macros,
@@ -154,7 +153,7 @@ pub(crate) fn print_own(
     };
     let table = cells.table();
     let escapes = setup.options.form == 2;
-    let (pages, printed) = print_coded(text, &table, escapes, set, &mut memory, pages);
+    let (pages, printed) = print_coded(text, &table, escapes, set, memory, pages);
     let bytes = pages.as_slice();
     let written = hand_over(bytes, output);
     *reported = report_of(printed, written, macros.len());

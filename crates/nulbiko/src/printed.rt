@@ -1,5 +1,7 @@
 // The pages of a document go out: as bytes, or in UTF-8.
-ghost use Rattle.std.specs.Prelude.{◌≡◌, ◌≢◌, List, ℕ, [], Some};
+ghost use Rattle.std.specs.Prelude.{◌≡◌, ◌≢◌, ◌+◌, List, ℕ, [], Some, IfOk};
+ghost use Rattle.nr_machine.specs.Lengths.{sizes_of, sum_of};
+ghost use Rattle.tbl_stage.specs.Memory.{memory_of};
 ghost use Rattle.document_stages.specs.Pulling.{whole};
 ghost use Rattle.document_reader.specs.Page.{IsShort, man_of};
 ghost use Rattle.tbl_stage.specs.Text.{bounds_in};
@@ -17,13 +19,15 @@ use super::pages::Pages;
 use super::reported::{DONE, FULL, LIMIT, Report, TOO_LONG, UNREADABLE, count_reported};
 use super::text::Text;
 use document_printing::{
-    PageEnd, PageTable, Report as Run, Rooms, Setup, Showing, Spelling, Stages, print, print_shown,
+    PageEnd, PageLimits, PageTable, Report as Run, Rooms, Setup, Showing, Spelling, Stages, print,
+    print_shown,
 };
 use document_reader::{Places, read_own_page};
-use nr_engine::Desk;
+use nr_engine::{CountedAlloc, Desk, Limits};
 use nr_units::sink::Sink;
 use nr_units::source::Fault;
 use preconv_converter::Target;
+use std::alloc::AllocError;
 use tbl_setting::Complaint;
 use utf8_characters::FixedTable;
 use utf8_converter::Shown;
@@ -67,6 +71,26 @@ impl Drop for Memory {
     }
 }
 
+/// No room for tables.
+const NO_TABLES: PageLimits = PageLimits {
+    formats: 0,
+    row: 0,
+    set: 0,
+};
+
+impl Memory {
+    /// Takes it for pages under these limits, without room for tables.
+    pub(crate) fn new(alloc: &mut CountedAlloc, limits: Limits) -> Result<Memory, AllocError>
+        ensures limits { IfOk result (λ made. made.desk ≡ limits) }
+        ensures taken { IfOk result (λ made. alloc.new ≡ alloc.old + sum_of (sizes_of limits)
+            + memory_of (record { formats = 0; row = 0; set = 0 })) }
+    {
+        let desk = Desk::new(alloc, limits)?;
+        let rooms = Rooms::new(alloc, NO_TABLES, 0, None)?;
+        Ok(Memory { rooms, desk })
+    }
+}
+
 /// How a page was printed.
 #[derive(Clone, Copy)]
 pub(crate) struct Printed {
@@ -79,10 +103,11 @@ pub(crate) struct Printed {
 
 /// Prints a page as the formatter gives its bytes.
 fn print_page<W: Sink>(page: &[u8], setup: &Setup<'_>, memory: &mut Memory, output: &mut W) -> Run
-    ensures { IsShort page.now (man_of setup.now.stages.mdoc page.now) →
+    ensures printed { IsShort page.now (man_of setup.now.stages.mdoc page.now) →
         Prints (setting_of setup.now (bounds_in memory.old.rooms) memory.old.desk)
         (source_of (setting_of setup.now (bounds_in memory.old.rooms) memory.old.desk) (whole page.now))
         result.moves result.outcome (W.held output.old) (W.held output.new) }
+    ensures desk { memory.new.desk ≡ memory.old.desk }
 {
     let Memory { rooms, desk } = memory;
     let mut complaints = [Complaint::NONE];
@@ -127,11 +152,12 @@ fn print_fixed(
     memory: &mut Memory,
     pages: Pages,
 ) -> (Pages, Printed)
-    ensures { ⟦<Pages as Sink>⟧.held pages ≡ Some [] →
+    ensures printed { ⟦<Pages as Sink>⟧.held pages ≡ Some [] →
         IsShort page.now (man_of setup.now.stages.mdoc page.now) →
         (bytes : List ℕ) → ⟦<Pages as Sink>⟧.held result.0 ≡ Some bytes →
         IsPrinted (setting_of setup.now (bounds_in memory.old.rooms) memory.old.desk)
         (specs.characters table escapes) page.now bytes result.1.moves result.1.outcome result.1.dropped }
+    ensures desk { memory.new.desk ≡ memory.old.desk }
 {
     let mut room = [0; ROOM];
     let mut shown = Shown::over(pages, table, escapes, &mut room);
@@ -177,6 +203,7 @@ pub(crate) fn print_coded<'a>(
         ShowsCoded (setting_of setup.entry (bounds_in memory.old.rooms) memory.old.desk)
         table.entry.now escapes page.now bytes result.1.moves result.1.outcome }
     ensures none_dropped { result.1.dropped ≡ 0 }
+    ensures desk { memory.new.desk ≡ memory.old.desk }
 {
     let stages = setup.stages;
     let showing = coded_showing(table, escapes, setup);
@@ -198,11 +225,12 @@ pub(crate) fn print_pages(
     memory: &mut Memory,
     pages: Pages,
 ) -> (Pages, Printed)
-    ensures { ⟦<Pages as Sink>⟧.held pages ≡ Some [] →
+    ensures printed { ⟦<Pages as Sink>⟧.held pages ≡ Some [] →
         IsShort page.now (man_of setup.now.stages.mdoc page.now) →
         (bytes : List ℕ) → ⟦<Pages as Sink>⟧.held result.0 ≡ Some bytes →
         IsPrinted (setting_of setup.now (bounds_in memory.old.rooms) memory.old.desk)
         form page.now bytes result.1.moves result.1.outcome result.1.dropped }
+    ensures desk { memory.new.desk ≡ memory.old.desk }
 {
     match form {
         Form::Bytes => {
