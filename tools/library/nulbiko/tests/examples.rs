@@ -44,7 +44,9 @@ fn a_handle_prints_what_a_document_is() {
             (made, wanted) => panic!("{made:?} in place of {wanted:?}"),
         }
     }
-    let none = Handle::open(&Limits { depth: 0, ..limits }, &Options::PAGE, MAN).unwrap_err();
+    let mut shallow = limits;
+    shallow.depth = 0;
+    let none = Handle::open(&shallow, &Options::PAGE, MAN).unwrap_err();
     assert_eq!((none.call, none.why), ("open", Why::OutOfRange));
     std::thread::spawn(move || handle.run(WHOLE).map(drop)).join().expect("a thread").expect("a page");
 }
