@@ -302,7 +302,7 @@ static void outcomes(void)
     judge("preconv: full", nulbiko_preconv(NULBIKO_NO_TABLE, "word\n", 5, out, 2, &report) == NULBIKO_FULL && put_out("wo"));
     prepare();
     judge("mdoc: a page", nulbiko_mdoc(".Dd $Mdocdate$\n.Dt A 1\n.Os\n.Sh NAME\n", 38, out, sizeof out, &report) == NULBIKO_DONE &&
-                              report.written > 4 && !memcmp(out, ".TH ", 4));
+                              report.written > 7 && !memcmp(out, ".de %i\n", 7));
     prepare();
     judge("mdoc: another page", nulbiko_mdoc(".TH A 1\n", 8, out, sizeof out, &report) == NULBIKO_DONE && put_out(".TH A 1\n"));
     prepare();
