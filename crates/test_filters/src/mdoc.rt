@@ -28,21 +28,21 @@ static RUNS: [Run; 15] = [
     },
     Run {
         words: &[b"mdoc", b"page"],
-        output: b".TH ROW 1 \"May 1, 2020\" \"\\*()O\"\n.ds )9 \\*()4\n.nr IN 5n\n.ad l\n.SH NAME\n\\fBrow\\fR\n\\(en a line\n",
+        output: b".de %i\n.br\n.if \\\\n(nl-\\\\n(%t=1v*\\\\$1>\\\\n(.n \\\\{.sp -1\n\\\\&\\\\c\n.\\\\}\n..\n.TH ROW 1 \"May 1, 2020\" \"\\*()O\"\n.ds )9 \\*()4\n.nr IN 5n\n.ad l\n.SH NAME\n\\fBrow\\fR\n\\(en a line\n",
         status: 0,
         lines: b"",
     },
     // Standard input stands where it is named, and ends once. Each file is turned by itself.
     Run {
         words: &[b"mdoc", b"man", b"page", b"-", b"open", b"-"],
-        output: b".TH x\na\n.TH ROW 1 \"May 1, 2020\" \"\\*()O\"\n.ds )9 \\*()4\n.nr IN 5n\n.ad l\n.SH NAME\n\\fBrow\\fR\n\\(en a line\ntyped\n.TH x\na",
+        output: b".TH x\na\n.de %i\n.br\n.if \\\\n(nl-\\\\n(%t=1v*\\\\$1>\\\\n(.n \\\\{.sp -1\n\\\\&\\\\c\n.\\\\}\n..\n.TH ROW 1 \"May 1, 2020\" \"\\*()O\"\n.ds )9 \\*()4\n.nr IN 5n\n.ad l\n.SH NAME\n\\fBrow\\fR\n\\(en a line\ntyped\n.TH x\na",
         status: 0,
         lines: b"",
     },
     // What is wrong with a page is reported, and the others are turned.
     Run {
         words: &[b"mdoc", b"wrong", b"man"],
-        output: b".TH ROW 1 \"May 1, 2020\" \"\\*()O\"\n.ds )9 \\*()4\n.nr IN 5n\n.ad l\na\nb\n.TH x\na\n",
+        output: b".de %i\n.br\n.if \\\\n(nl-\\\\n(%t=1v*\\\\$1>\\\\n(.n \\\\{.sp -1\n\\\\&\\\\c\n.\\\\}\n..\n.TH ROW 1 \"May 1, 2020\" \"\\*()O\"\n.ds )9 \\*()4\n.nr IN 5n\n.ad l\na\nb\n.TH x\na\n",
         status: 1,
         lines: b"mdoc: wrong:4: unknown macro: Xx\nmdoc: wrong:5: unknown macro: Xy\n",
     },
@@ -106,13 +106,13 @@ static RUNS: [Run; 15] = [
     },
     Run {
         words: &[b"mdoc", b"wrong", b"folder"],
-        output: b".TH ROW 1 \"May 1, 2020\" \"\\*()O\"\n.ds )9 \\*()4\n.nr IN 5n\n.ad l\na\nb\n",
+        output: b".de %i\n.br\n.if \\\\n(nl-\\\\n(%t=1v*\\\\$1>\\\\n(.n \\\\{.sp -1\n\\\\&\\\\c\n.\\\\}\n..\n.TH ROW 1 \"May 1, 2020\" \"\\*()O\"\n.ds )9 \\*()4\n.nr IN 5n\n.ad l\na\nb\n",
         status: 3,
         lines: b"mdoc: wrong:4: unknown macro: Xx\nmdoc: wrong:5: unknown macro: Xy\nmdoc: read fault at byte 0\n",
     },
     Run {
         words: &[b"mdoc", b"man", b"wrong", b"man", b"wrong"],
-        output: b".TH x\na\n.TH ROW 1 \"May 1, 2020\" \"\\*()O\"\n.ds )9 \\*()4\n.nr IN 5n\n.ad l\na\nb\n.TH x\na\n.TH ROW 1 \"May 1, 2020\" \"\\*()O\"\n.ds )9 \\*()4\n.nr IN 5n\n.ad l\na\nb\n",
+        output: b".TH x\na\n.de %i\n.br\n.if \\\\n(nl-\\\\n(%t=1v*\\\\$1>\\\\n(.n \\\\{.sp -1\n\\\\&\\\\c\n.\\\\}\n..\n.TH ROW 1 \"May 1, 2020\" \"\\*()O\"\n.ds )9 \\*()4\n.nr IN 5n\n.ad l\na\nb\n.TH x\na\n.de %i\n.br\n.if \\\\n(nl-\\\\n(%t=1v*\\\\$1>\\\\n(.n \\\\{.sp -1\n\\\\&\\\\c\n.\\\\}\n..\n.TH ROW 1 \"May 1, 2020\" \"\\*()O\"\n.ds )9 \\*()4\n.nr IN 5n\n.ad l\na\nb\n",
         status: 1,
         lines: b"mdoc: wrong:4: unknown macro: Xx\nmdoc: wrong:5: unknown macro: Xy\nmdoc: wrong:4: unknown macro: Xx\nmdoc: wrong:5: unknown macro: Xy\n",
     },

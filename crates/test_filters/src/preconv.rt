@@ -36,7 +36,7 @@ static TEXTS: [Named; 11] = [
     ("cut", Page::Cut(b"a\\~b\n.BR c\\(l")),
 ];
 
-static RUNS: [Run; 25] = [
+static RUNS: [Run; 24] = [
     Run {
         words: &[b"preconv"],
         output: b"cafe\n",
@@ -180,12 +180,6 @@ static RUNS: [Run; 25] = [
         output: b"cafe\n",
         status: 0,
         lines: b"preconv: many: characters not shown: U+0475 U+0476 U+0477\n",
-    },
-    Run {
-        words: &[b"preconv", b"-u", b"own:many", b"cut"],
-        output: b"a\\ b\n.BR c",
-        status: 3,
-        lines: b"preconv: cut: read fault at byte 13\n",
     },
     Run {
         words: &[b"preconv", b"-u", b"own:none", b"missing"],
