@@ -19,6 +19,10 @@ has_manual names = list_any is_manual_name names
 abbrev pub file_name : List ℕ → List ℕ
 file_name name = if is_manual_name name then codes "an" else name
 
+-- one of these names is of that file
+abbrev pub names_file : List ℕ → List (List ℕ) → Bool
+names_file file names = list_any (λ name. bytes_eq (file_name name) file) names
+
 -- what macros these names are of; where there is no name what the text asks for
 abbrev pub named_by : Bool → List (List ℕ) → Macros
 named_by asks [] = if asks then Manual else macros.None

@@ -2,6 +2,7 @@
 ghost use Rattle.std.specs.Prelude.{◌≡◌, OnOk, IfOk};
 ghost use Rattle.program_options.specs.Job.{asked_of, texts};
 ghost use Rattle.program_plan.specs.Before.{BeginsWith, cells_of, is_of_manual, is_paper, usual_cells};
+ghost use Rattle.program_plan.specs.Macros.{names_file};
 ghost use Rattle.program_plan.specs.Prefix.{prefix};
 
 use crate::macros::{Macros, file_name};
@@ -91,12 +92,27 @@ fn put_files(job: &Job<'_>, macros: Macros, text: &mut Vec<u8>) -> Result<(), Al
     }
 }
 
-/// Adds the files of these macros, as far as the program has them.
+/// Whether one of these names is of that file of macros.
+fn names_file(names: &[&str], file: &[u8]) -> bool
+    ensures { result ≡ names_file file.now (texts names.now) }
+{
+    for name in names {
+        if file_name(name).as_bytes() == file {
+            return true;
+        }
+    }
+    false
+}
+
+/// Adds the files of these macros, as far as the program has them, each where it is first named.
 fn put_named(names: &[&str], text: &mut Vec<u8>) -> Result<(), AllocError>
     ensures { OnOk result (BeginsWith text.old.items text.new.items) }
 {
-    for name in names {
-        put_file(file_name(name), text)?;
+    for (at, name) in names.iter().enumerate() {
+        let file = file_name(name);
+        if !names_file(&names[..at], file.as_bytes()) {
+            put_file(file, text)?;
+        }
     }
     Ok(())
 }

@@ -43,7 +43,7 @@ static TEXTS: [(&str, Page<'static>); 13] = [
 ];
 
 /// What is formatted.
-static PRINTED: [Case; 20] = [
+static PRINTED: [Case; 21] = [
     Case {
         words: &[b"nulbiko"],
         input: b".pl 2\n.ll 8\na bb ccc dddd\n",
@@ -62,6 +62,18 @@ static PRINTED: [Case; 20] = [
     // a page asks for its macros by itself
     Case {
         words: &[b"nulbiko", b"-Tascii", b"-w", b"41", b"a.1"],
+        input: b"",
+        output: b"A(1)     General Commands Manual     A(1)\n\n\
+NAME\n       a - b\n\n\
+here              today              A(1)\n",
+        status: 0,
+        line: b"",
+    },
+    // macros that are named twice are read once
+    Case {
+        words: &[
+            b"nulbiko", b"-mandoc", b"-man", b"-Tascii", b"-w", b"41", b"a.1",
+        ],
         input: b"",
         output: b"A(1)     General Commands Manual     A(1)\n\n\
 NAME\n       a - b\n\n\

@@ -2,5 +2,5 @@
 use Rattle.program_plan.specs.Before.{BeginsWith}
 use Rattle.program_plan.proofs.before.put_named.Given as goal
 
-abbrev pub invariant-loop-name : goal.invariant-loop-name
-invariant-loop-name l = BeginsWith l.initial.text.items l.text.items
+abbrev pub invariant-loop-at : goal.invariant-loop-at
+invariant-loop-at l = BeginsWith l.initial.text.items l.text.items
