@@ -3,6 +3,7 @@ ghost use Rattle.nr_laws.specs.Laws.{LimitsOnlyStop, NoLimitAsked, LimitsCut, Li
 ghost use Rattle.nr_laws.specs.Moves.{LimitsAreExact, MovesAreFew, MovesBeforeByte, MovesBetween};
 ghost use Rattle.nr_laws.specs.PlainText.{PlainTextStays};
 ghost use Rattle.nr_laws.specs.Printed.{NoByteIsAdded, NoHighControlGoesOut, NoControlGoesOut, BackspaceStrikes};
+ghost use Rattle.nr_machine.specs.FirstBytes.{FirstIsKept};
 ghost use Rattle.nr_laws.specs.Faces.{FacesOnlyShow, StruckOutIsSame, LettersAreLeft};
 ghost use Rattle.nr_laws.specs.FilledText.{FilledTextIsRows, CutIsLongest, CutFits};
 
@@ -136,4 +137,13 @@ pub fn no_control_goes_out()
 pub fn no_byte_is_added()
     ensures bytes { NoByteIsAdded }
     ensures controls { NoHighControlGoesOut }
+{}
+
+/// Where a run over some bytes alone has taken all of them and needs no further one, a run over any input that begins with them
+/// makes the same moves first, and comes to the same state but for what is to come.
+///
+/// Proved: Moves that were made over the first bytes of an input alone, up to the last of them, are the first moves over
+/// the whole input, whatever follows, and lead to the same state but for what is to come.
+pub fn first_is_kept()
+    ensures { FirstIsKept }
 {}

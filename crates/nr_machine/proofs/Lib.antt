@@ -1,5 +1,6 @@
 pub mod Bursts
 mod Choices
+pub mod FirstBytes
 pub mod Going
 mod Hearing
 mod Lightening

@@ -1,4 +1,5 @@
 pub mod Choosing
+pub mod FirstBytes
 pub mod Holding
 pub mod Lengths
 pub mod Limits
