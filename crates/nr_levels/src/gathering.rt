@@ -49,6 +49,17 @@ impl Gathering {
         })
     }
 
+    /// Takes what another with as much room has.
+    pub fn copy_from(&mut self, other: &Gathering)
+        requires { other.now.capacity ≡ self.old.capacity }
+        ensures { self.new ≡ other.now }
+    {
+        self.bytes.copy_from(&other.bytes);
+        self.lens = other.lens;
+        self.count = other.count;
+        self.start = other.start;
+    }
+
     /// How many bytes there is memory for, as their vector tells.
     pub fn memory(&self) -> usize
         ensures { result ≡ self.now.capacity }

@@ -102,6 +102,19 @@ impl<K: Copy> Levels<K> {
         self.in_force = Span { first: 0, last: 0 };
     }
 
+    /// Takes the levels and arguments of another with as much room in place of its own.
+    pub fn copy_from(&mut self, other: &Levels<K>)
+        requires capacity { other.now.capacity ≡ self.old.capacity }
+        requires most { other.now.most ≡ self.old.most }
+        ensures { self.new ≡ other.now }
+    {
+        self.frames.copy_from(&other.frames);
+        self.modes.copy_from(&other.modes);
+        self.bytes.copy_from(&other.bytes);
+        self.places.copy_from(&other.places);
+        self.in_force = other.in_force;
+    }
+
     /// How many levels there is memory for, as their vector tells.
     pub fn frame_memory(&self) -> usize
         ensures { result ≡ self.now.most }

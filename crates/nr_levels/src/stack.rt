@@ -78,6 +78,14 @@ impl<T: Copy> Stack<T> {
         Some(self.items[self.items.len() - 1])
     }
 
+    /// Takes copies of the items of another stack in place of its own.
+    pub fn copy_from(&mut self, other: &Stack<T>)
+        requires { other.now.capacity ≡ self.old.capacity }
+        ensures { self.new ≡ other.now }
+    {
+        self.items.copy_from(other.items.as_slice());
+    }
+
     /// Adds an item.
     #[inline]
     pub fn push(&mut self, item: T)

@@ -183,6 +183,19 @@ impl<T: Copy> Packed<T> {
         self.spares = 0;
     }
 
+    /// Takes the texts of another pool with as much room, under their numbers, in place of its own.
+    pub fn copy_from(&mut self, other: &Packed<T>)
+        requires capacity { other.now.capacity ≡ self.old.capacity }
+        requires texts { length other.now.texts ≡ length self.old.texts }
+        ensures { self.new ≡ other.now }
+    {
+        self.elements.copy_from(other.elements.as_slice());
+        self.slots.copy_from(other.slots.as_slice());
+        self.used = other.used;
+        self.spares = other.spares;
+        self.first_spare = other.first_spare;
+    }
+
     /// How many elements a text has.
     pub fn len(&self, id: Id) -> usize
         requires { IsOpen self.now id }

@@ -166,6 +166,19 @@ impl<T: Copy> Pool<T> {
         self.texts.remove_all();
     }
 
+    /// Takes the texts of another pool with as much room, under their numbers, in place of its own. It takes as many steps as the
+    /// other has had elements and texts since all were removed.
+    ///
+    /// Proved: A pool is made equal to another with as much room.
+    pub fn copy_from(&mut self, other: &Pool<T>)
+        requires capacity { other.now.capacity ≡ self.old.capacity }
+        requires texts { length other.now.texts ≡ length self.old.texts }
+        ensures { self.new ≡ other.now }
+    {
+        self.texts.copy_from(&other.texts);
+        self.share = other.share;
+    }
+
     /// How many elements a text has.
     pub fn len(&self, id: Id) -> usize
         requires { IsOpen self.now id }

@@ -124,6 +124,15 @@ impl HyphenationWords {
         })
     }
 
+    /// Takes the words of another with as much room in place of its own.
+    pub fn copy_from(&mut self, other: &HyphenationWords)
+        requires { other.now.capacity ≡ self.old.capacity }
+        ensures { self.new ≡ other.now }
+    {
+        self.row.copy_from(&other.row);
+        self.latest.copy_from(&other.latest);
+    }
+
     /// Takes all words away.
     pub fn clear(&mut self)
         ensures { self.new ≡ record self.old { items = [] } }

@@ -173,6 +173,15 @@ impl<V: Copy> SymbolTable<V> {
         })
     }
 
+    /// Takes the names of another table with as much room, and what has them, in place of its own.
+    pub fn copy_from(&mut self, other: &SymbolTable<V>)
+        requires { other.now.capacity ≡ self.old.capacity }
+        ensures { self.new ≡ other.now }
+    {
+        self.entries.copy_from(&other.entries);
+        self.latest.copy_from(&other.latest);
+    }
+
     /// Takes all names away.
     pub fn clear(&mut self)
         ensures { self.new ≡ record self.old { entries = [] } }

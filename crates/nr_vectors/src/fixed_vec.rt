@@ -227,6 +227,15 @@ impl<T: Copy> FixedVec<T> {
         self.len = n;
     }
 
+    /// Takes copies of the items of another vector in place of its own.
+    pub fn copy_from(&mut self, other: &FixedVec<T>)
+        requires { other.now.capacity ≡ self.old.capacity }
+        ensures { self.new ≡ other.now }
+    {
+        self.len = 0;
+        self.extend(other.as_slice());
+    }
+
     /// Takes all items away.
     #[inline]
     pub fn clear(&mut self)

@@ -57,6 +57,13 @@ impl<const N: usize> ReservedArray<N> {
         self.numbers[place] = number;
     }
 
+    /// Takes the numbers of another array.
+    pub fn copy_from(&mut self, other: &ReservedArray<N>)
+        ensures { self.new ≡ other.now }
+    {
+        *self.numbers = *other.numbers;
+    }
+
     /// Puts a number at each place.
     pub fn fill(&mut self, number: usize)
         ensures { self.new ≡ replicate N number }

@@ -114,6 +114,20 @@ impl<T: Copy> ReservedVec<T> {
         self.items.clear();
     }
 
+    /// Takes copies of these items in place of its own.
+    pub fn copy_from(&mut self, items: &[T])
+        requires { length items.now ≤ self.old.capacity }
+        ensures items { self.new.items ≡ items.now }
+        ensures room { self.new.capacity ≡ self.old.capacity }
+    {
+        self.items.truncate(items.len());
+        let (first, more) = items.split_at(self.items.len());
+        self.items.as_mut_slice().copy_from_slice(first);
+        for item in more {
+            self.items.push_reserved(*item);
+        }
+    }
+
     /// Copies the items of a range over those that stand from a place on.
     #[inline]
     pub fn copy_within(&mut self, from: Range<usize>, to: usize)

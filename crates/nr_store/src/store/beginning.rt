@@ -95,6 +95,25 @@ impl<K: Copy> Store<K> {
         })
     }
 
+    /// Takes all that another store under the same limits has in place of its own.
+    ///
+    /// Proved: A store is made equal to another under the same limits.
+    pub fn copy_from(&mut self, other: &Store<K>)
+        requires limit { other.now.limit ≡ self.old.limit }
+        requires deepest { other.now.deepest ≡ self.old.deepest }
+        ensures { self.new ≡ other.now }
+    {
+        self.pool.copy_from(&other.pool);
+        self.names.copy_from(&other.names);
+        self.drafts.copy_from(&other.drafts);
+        self.levels.copy_from(&other.levels);
+        self.gathering.copy_from(&other.gathering);
+        self.registers.copy_from(&other.registers);
+        self.traps.copy_from(&other.traps);
+        self.words.copy_from(&other.words);
+        self.charge = other.charge;
+    }
+
     /// Takes all away but the requests, which stand under their names.
     pub fn clear(&mut self)
         ensures { self.new ≡ nothing request_names self.old.limit self.old.deepest }
