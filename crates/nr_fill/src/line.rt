@@ -155,6 +155,23 @@ impl Line {
         self.title = None;
     }
 
+    /// Takes what another line of the same limit has collected in place of its own.
+    pub fn copy_from(&mut self, other: &Line)
+        requires { other.now.limit ≡ self.old.limit }
+        ensures { self.new ≡ other.now }
+    {
+        self.row.copy_from(&other.row);
+        self.pieces = other.pieces;
+        self.wide = other.wide;
+        self.word = other.word;
+        self.gap = other.gap;
+        self.barred = other.barred;
+        self.sentence = other.sentence;
+        self.margins = other.margins;
+        self.turn = other.turn;
+        self.title = other.title;
+    }
+
     /// Whether a word is being read.
     #[inline]
     pub fn has_word(&self) -> bool

@@ -80,6 +80,16 @@ impl Out {
         }
     }
 
+    /// Takes copies of the cells of another row in place of its own.
+    pub fn copy_from(&mut self, other: &Out)
+        requires { other.now.capacity ≡ self.old.capacity }
+        ensures { self.new ≡ other.now }
+    {
+        self.cells.copy_from(&other.cells);
+        self.count = other.count;
+        self.written = other.written;
+    }
+
     /// How many cells the row has up to the last that is no blank.
     #[inline]
     pub fn written(&self) -> usize

@@ -80,6 +80,17 @@ impl PieceRow {
         self.read = 0;
     }
 
+    /// Takes the pieces and cells of another with as much room in place of its own.
+    pub(crate) fn copy_from(&mut self, other: &PieceRow)
+        requires { other.now.capacity ≡ self.old.capacity }
+        ensures { self.new ≡ other.now }
+    {
+        self.cells.copy_from(&other.cells);
+        self.slots.copy_from(&other.slots);
+        self.pieced = other.pieced;
+        self.read = other.read;
+    }
+
     /// How many cells there is memory for, as their vector tells.
     pub(crate) fn cell_memory(&self) -> usize
         ensures { result ≡ self.now.capacity }

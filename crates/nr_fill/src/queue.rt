@@ -152,6 +152,16 @@ impl<T: Copy> Queue<T> {
         self.slots.capacity()
     }
 
+    /// Takes copies of the items of another queue in place of its own.
+    pub(crate) fn copy_from(&mut self, other: &Queue<T>)
+        requires { other.now.capacity ≡ self.old.capacity }
+        ensures { self.new ≡ other.now }
+    {
+        self.slots.copy_from(other.slots.as_slice());
+        self.start = other.start;
+        self.end = other.end;
+    }
+
     #[inline]
     pub(crate) fn len(&self) -> usize
         ensures value { result ≡ length self.now.items }

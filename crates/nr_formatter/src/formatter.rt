@@ -5,6 +5,7 @@ ghost use Rattle.nr_store.specs.Memory.{elements_in, rooms_of};
 ghost use Rattle.nr_store.specs.Request.{request_names};
 ghost use Rattle.nr_store.specs.Store.{nothing};
 ghost use Rattle.nr_formatter.specs.Beginning.{first_formatter, with_first};
+ghost use Rattle.nr_formatter.specs.Limits.{limits_of};
 ghost use Rattle.nr_formatter.specs.Places.{outlet, present_place};
 
 use crate::paper::{Given, Outlet, Paper};
@@ -126,6 +127,28 @@ impl Formatter {
         self.input_trap = None;
         self.step = Step::NotYet;
         self.end_macro = None;
+    }
+
+    /// Takes all that another under the same limits keeps in place of its own.
+    ///
+    /// Proved: A formatter is made equal to another under the same limits.
+    pub fn copy_from(&mut self, other: &Formatter)
+        requires { limits_of other.now ≡ limits_of self.old }
+        ensures { self.new ≡ other.now }
+    {
+        self.reader.copy_from(&other.reader);
+        self.store.copy_from(&other.store);
+        self.line.copy_from(&other.line);
+        self.settings.copy_from(&other.settings);
+        self.paper = other.paper;
+        self.given = other.given;
+        self.event = other.event;
+        self.springs = other.springs;
+        self.task = other.task;
+        self.breaks = other.breaks;
+        self.input_trap = other.input_trap;
+        self.step = other.step;
+        self.end_macro = other.end_macro;
     }
 
     /// The next page has this number, as `-n` asks before the first.

@@ -64,6 +64,15 @@ impl Place {
         }
     }
 
+    /// Stands as far as another.
+    pub fn copy_from(&mut self, other: &Place)
+        ensures { self.new ≡ other.now }
+    {
+        self.ahead = other.ahead;
+        self.taken = other.taken;
+        self.inside = other.inside;
+    }
+
     /// How many bytes of the input were taken.
     pub fn taken(&self) -> u64
         ensures value { result ≡ self.now.taken }

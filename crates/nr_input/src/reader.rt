@@ -31,4 +31,14 @@ impl Reader {
             most,
         }
     }
+
+    /// Takes what is half read of another.
+    pub fn copy_from(&mut self, other: &Reader)
+        ensures { self.new ≡ other.now }
+    {
+        self.half.copy_from(&other.half);
+        self.request = other.request;
+        self.burst = other.burst;
+        self.most = other.most;
+    }
 }

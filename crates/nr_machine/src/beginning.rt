@@ -82,6 +82,22 @@ impl Engine {
         })
     }
 
+    /// Stands where another under the same limits stands.
+    ///
+    /// Proved: An engine is made equal to another under the same limits.
+    pub fn copy_from(&mut self, other: &Engine)
+        requires { limits_of (shape other.now) ≡ limits_of (shape self.old) }
+        ensures { shape self.new ≡ shape other.now }
+    {
+        self.formatter.copy_from(&other.formatter);
+        self.place.copy_from(&other.place);
+        self.row.copy_from(&other.row);
+        self.page.copy_from(&other.page);
+        self.select = other.select.copied();
+        self.faces = other.faces;
+        self.resumed = other.resumed;
+    }
+
     /// Nothing is read yet, and nothing placed, under the limits that it was made for. What is printed is as the options say.
     ///
     /// Proved: An engine that is emptied stands where the machine begins: nothing is read and nothing placed, under

@@ -96,6 +96,16 @@ impl<T: Copy> GapVec<T> {
         self.gap = gap - 1;
     }
 
+    /// Takes copies of the items of another in place of its own.
+    pub(crate) fn copy_from(&mut self, other: &GapVec<T>)
+        requires { other.now.capacity ≡ self.old.capacity }
+        ensures { self.new ≡ other.now }
+    {
+        self.slots.copy_from(other.slots.as_slice());
+        self.prefix = other.prefix;
+        self.gap = other.gap;
+    }
+
     pub(crate) fn clear(&mut self)
         ensures items { self.new.items ≡ [] }
         ensures room { self.new.capacity ≡ self.old.capacity }

@@ -174,6 +174,17 @@ impl Page {
         }
     }
 
+    /// Takes the lines of another page of the same limit in place of its own.
+    pub fn copy_from(&mut self, other: &Page)
+        requires { other.now.limit ≡ self.old.limit }
+        ensures { self.new ≡ other.now }
+    {
+        self.texts.copy_from(&other.texts);
+        self.rows.copy_from(&other.rows);
+        self.row_count = other.row_count;
+        self.charge = other.charge;
+    }
+
     /// Takes all lines away.
     pub fn clear(&mut self)
         ensures empty { Holds [] self.new }

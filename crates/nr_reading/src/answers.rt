@@ -35,6 +35,14 @@ impl Answers {
         }
     }
 
+    /// Takes the answers of another.
+    pub(crate) fn copy_from(&mut self, other: &Answers)
+        ensures { self.new ≡ other.now }
+    {
+        self.answers = other.answers;
+        self.len = other.len;
+    }
+
     /// Remembers an answer; the oldest is forgotten where there are 32.
     pub(crate) fn remember(&mut self, answer: bool)
         ensures { self.new ≡ remembered answer self.old }

@@ -38,6 +38,16 @@ impl Asks {
         }
     }
 
+    /// Takes those of another.
+    pub(crate) fn copy_from(&mut self, other: &Asks)
+        ensures { self.new ≡ other.now }
+    {
+        for place in 0..MOST {
+            self.asks[place] = other.asks[place];
+        }
+        self.len = other.len;
+    }
+
     /// Whether none is half read.
     pub fn is_empty(&self) -> bool
         ensures { result ≡ is_none self.now }

@@ -52,6 +52,17 @@ impl Delimited {
         }
     }
 
+    /// Takes those of another.
+    pub(crate) fn copy_from(&mut self, other: &Delimited)
+        ensures { self.new ≡ other.now }
+    {
+        for place in 0..MOST {
+            let text = &mut self.texts[place];
+            text.copy_from(&other.texts[place]);
+        }
+        self.count = other.count;
+    }
+
     /// Forgets all.
     pub(crate) fn clear(&mut self)
         ensures { self.new ≡ no_texts }

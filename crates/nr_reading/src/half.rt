@@ -80,6 +80,17 @@ impl Half {
         }
     }
 
+    /// What is half read of another.
+    pub fn copy_from(&mut self, other: &Half)
+        ensures { self.new ≡ other.now }
+    {
+        self.reading = other.reading;
+        self.signs = other.signs;
+        self.asks.copy_from(&other.asks);
+        self.delimited.copy_from(&other.delimited);
+        self.notes.copy_from(&other.notes);
+    }
+
     /// Whether the next item is read in the midst of a text line, after no part of an escape.
     #[inline]
     pub fn is_in_text(&self) -> bool

@@ -35,6 +35,14 @@ impl Kept {
         }
     }
 
+    /// Takes the bytes of another.
+    pub(crate) fn copy_from(&mut self, other: &Kept)
+        ensures { self.new ≡ other.now }
+    {
+        self.bytes = other.bytes;
+        self.len = other.len;
+    }
+
     /// Forgets all bytes.
     pub(crate) fn clear(&mut self)
         ensures { self.new ≡ [] }

@@ -124,6 +124,18 @@ impl Notes {
         }
     }
 
+    /// Takes what another has.
+    pub(crate) fn copy_from(&mut self, other: &Notes)
+        ensures { self.new ≡ other.now }
+    {
+        self.name = other.name;
+        self.asked = other.asked;
+        self.line.copy_from(&other.line);
+        self.condition = other.condition;
+        self.defining = other.defining;
+        self.answers.copy_from(&other.answers);
+    }
+
     /// What an element adds.
     #[inline(always)]
     pub(crate) fn note(&mut self, note: Jot)

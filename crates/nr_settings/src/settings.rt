@@ -36,4 +36,17 @@ impl Settings {
             text_width: 0,
         }
     }
+
+    /// Takes those of another.
+    pub fn copy_from(&mut self, other: &Settings)
+        ensures { self.new ≡ other.now }
+    {
+        self.filling = other.filling;
+        self.indents = other.indents;
+        self.fonts = other.fonts;
+        self.tabs.copy_from(&other.tabs);
+        self.hyphenation = other.hyphenation;
+        self.pages = other.pages;
+        self.text_width = other.text_width;
+    }
 }

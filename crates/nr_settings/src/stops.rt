@@ -45,6 +45,14 @@ impl Model for Stops {
 impl Stops {
     ghost use Rattle.std.specs.Prelude.{◌≡◌, ◌<◌, ◌≤◌, ◌∷◌, ◌++◌, [], length, nat_le};
 
+    /// Takes the stops of another.
+    pub fn copy_from(&mut self, other: &Stops)
+        ensures { self.new ≡ other.now }
+    {
+        self.places = other.places;
+        self.count = other.count;
+    }
+
     /// No stops.
     pub fn new() -> Self
         ensures { result ≡ [] }

@@ -151,6 +151,15 @@ impl Tabs {
         }
     }
 
+    /// Takes those of another.
+    pub(crate) fn copy_from(&mut self, other: &Tabs)
+        ensures { self.new ≡ other.now }
+    {
+        self.stops.copy_from(&other.stops);
+        self.tab = other.tab;
+        self.leader = other.leader;
+    }
+
     /// `.ta`
     ///
     /// Proved: `.ta .tc .lc` each change the tab stops, of which there are 32 at most, or what tabs and leaders
