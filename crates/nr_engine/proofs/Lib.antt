@@ -1,2 +1,3 @@
+mod GoingOn
 mod Starting
 mod Travelling

@@ -1,9 +1,10 @@
 //! The memory of a run, taken once and lent as often as wanted.
-ghost use Rattle.std.specs.Prelude.{◌≡◌, ◌+◌, ◌*◌, ◌≤◌, IfOk};
+ghost use Rattle.std.specs.Prelude.{◌≡◌, ◌+◌, ◌*◌, ◌≤◌, length, IfOk};
 ghost use Rattle.nr_machine.specs.Lengths.{sizes_of, sum_of};
 
+use crate::keeping::Kept;
 use nr_machine::{Engine, Sizes};
-use nr_options::Limits;
+use nr_options::{Limits, Options};
 use nr_vectors::CountedAlloc;
 use std::alloc::AllocError;
 use std::marker::Model;
@@ -12,6 +13,7 @@ use std::marker::Model;
 pub struct Desk {
     pub(crate) limits: Limits,
     pub(crate) engine: Engine,
+    pub(crate) kept: Option<Kept>,
 }
 
 // Derived, it would be gone through part by part in the proof of each function that owns a desk.
@@ -20,6 +22,7 @@ impl Drop for Desk {
         let Desk {
             limits: _,
             engine: _,
+            kept: _,
         } = self;
     }
 }
@@ -29,13 +32,14 @@ impl Model for Desk {
 
     ghost Value = { Bounds };
 
-    ghost use Rattle.std.specs.Prelude.{◌≡◌};
+    ghost use Rattle.std.specs.Prelude.{◌≡◌, IfSome};
     ghost use Rattle.nr_machine.specs.Holding.{shape};
     ghost use Rattle.nr_machine.specs.Limits.{limits_of, limits_under};
 
     ghost view = { λ d. d.limits };
 
-    ghost invariant = { λ d. limits_of (shape d.engine) ≡ limits_under d.limits };
+    ghost invariant = { λ d. (limits_of (shape d.engine) ≡ limits_under d.limits)
+        × IfSome d.kept (λ kept. kept.limits ≡ d.limits) };
 }
 
 /// A working space, lent by a desk for one run. `format` empties it.
@@ -57,6 +61,7 @@ impl Desk {
         Ok(Desk {
             limits,
             engine: Engine::new(alloc, limits)?,
+            kept: None,
         })
     }
 
@@ -70,6 +75,24 @@ impl Desk {
         ensures bound { sum_of result ≤ 4 * self.now.stored + 4 * self.now.depth + 6 * self.now.cells + 8192 }
     {
         self.engine.memory()
+    }
+
+    /// Reads the first bytes of inputs, as macro files, with these options, and keeps what comes of it in memory of its own:
+    /// `AllocError` where there is not so much. A run by `format_after` goes on from there. Where a run over these bytes alone stops
+    /// before all are read, or a page goes out, nothing is kept.
+    ///
+    /// Proved: What is kept of first bytes takes as many elements of memory as a desk, and one for each of these bytes.
+    pub fn keep(
+        &mut self,
+        alloc: &mut CountedAlloc,
+        options: Options,
+        first: &[u8],
+    ) -> Result<(), AllocError>
+        ensures limits { self.new ≡ self.old }
+        ensures taken { IfOk result (λ done. alloc.new ≡ alloc.old + length first.now + sum_of (sizes_of self.old)) }
+    {
+        self.kept = Kept::new(alloc, self.limits, options, first)?;
+        Ok(())
     }
 
     /// The working space of one run, under the desk's limits.

@@ -1,10 +1,13 @@
 //! A formatter for terminals: marked-up text into pages, under limits.
 //!
-//! It stands on nr_machine, fast_machine, nr_page, nr_options and the crates below them. To read: `desk`; `run`, with
-//! `format`.
+//! It stands on nr_machine, fast_machine, nr_page, nr_options and the crates below them. To read: `first_part`, `no_pages`, `keeping`; `desk`;
+//! `run`, with `format` and `format_after`.
 #![tactic(auto)]
 
 mod desk;
+mod first_part;
+mod keeping;
+mod no_pages;
 mod run;
 
 pub use desk::{Desk, Work};
@@ -17,4 +20,4 @@ pub use nr_units::over_std::{FromReader, ToWriter};
 pub use nr_units::sink::Sink;
 pub use nr_units::source::{Fault, Source};
 pub use nr_vectors::CountedAlloc;
-pub use run::format;
+pub use run::{format, format_after};

@@ -1,14 +1,16 @@
 //! A whole run.
-ghost use Rattle.std.specs.Prelude.{◌≡◌, ◌+◌, ◌*◌, ◌≤◌, Some, false, []};
+ghost use Rattle.std.specs.Prelude.{◌≡◌, ◌+◌, ◌*◌, ◌≤◌, None, Some, false, [], IfSome};
 ghost use Rattle.nr_units.specs.Source.{Supply};
 ghost use Rattle.nr_input.specs.Place.{has_failed};
 ghost use Rattle.nr_machine.specs.State.{start};
+ghost use Rattle.nr_machine.specs.FirstBytes.{preceded};
 ghost use Rattle.nr_machine.specs.Run.{Answers, ReportedFaults, kind_of};
 ghost use Rattle.nr_machine.specs.Holding.{shape, weight, worth};
 ghost use Rattle.nr_machine.specs.Limits.{limits_of, limits_under};
 ghost use Rattle.nr_engine.specs.Travelling.{Travels, outcome_when_spent};
 
 use crate::desk::Work;
+use crate::keeping::go_on;
 use fast_input::Gathered;
 use fast_machine::{put_at_hand, reads_on};
 use nr_formatter::tasks::Task;
@@ -41,7 +43,7 @@ fn outcome_when_spent(engine: &Engine) -> Outcome
 }
 
 /// Moves are made until the run ends: `most` at most, with those that were made before.
-fn run<R: Source, W: Sink>(
+pub(crate) fn run<R: Source, W: Sink>(
     engine: &mut Engine,
     most: u64,
     input: &mut R,
@@ -143,4 +145,36 @@ pub fn format<R: Source, W: Sink>(
     let desk = work.desk;
     let limits = desk.limits;
     run_in(&mut desk.engine, limits, options, input, output, moves)
+}
+
+/// Formats these bytes and then the input, as `format` does, where the desk keeps what comes of them with these options: they are not
+/// read again. Where it doesn't it does nothing, and answers `None`.
+///
+/// Proved: **A run from what is kept is the run over both texts**: the answer is that of the run, from the beginning, over the first
+/// bytes and then the input, whatever was formatted before.
+pub fn format_after<R: Source, W: Sink>(
+    work: Work<'_>,
+    options: &Options,
+    first: &[u8],
+    input: &mut R,
+    output: &mut W,
+    moves: &mut u128,
+) -> Option<Outcome>
+    ensures answers { IfSome result (λ outcome. (rest : Supply) → R.supply input.old ≡ Some rest →
+        Answers work.entry.desk.now (start work.entry.desk.now options.now (preceded first.now rest)) moves.new outcome
+        (W.held output.old) (W.held output.new)) }
+    ensures faults { IfSome result (λ outcome. ReportedFaults outcome (R.failures input.old) (R.failures input.new)
+        (W.failures output.old) (W.failures output.new)) }
+    ensures input { result ≡ None → input.new ≡ input.old }
+    ensures output { result ≡ None → output.new ≡ output.old }
+    ensures limits { work.exit.0.now ≡ work.entry.desk.now }
+{
+    let desk = work.desk;
+    let Some(kept) = &desk.kept else {
+        return None;
+    };
+    if !kept.has_read(options, first) {
+        return None;
+    }
+    Some(go_on(&mut desk.engine, kept, input, output, moves))
 }

@@ -1,5 +1,5 @@
 //! Page selection: a list of pages, as `1,3-5,9-`, and whether a page is in it.
-ghost use Rattle.std.specs.Prelude.{◌≡◌, ◌≢◌, ℕ, ◌<◌, ◌≤◌, ◌↔◌, List, [], ◌∷◌, ◌++◌, ℤ, IsTrue, IsErr, IfOk, Some, IfSome, IfNone, IsSomeAnd, None, codes};
+ghost use Rattle.std.specs.Prelude.{◌≡◌, ◌≢◌, ℕ, ◌<◌, ◌≤◌, ◌↔◌, List, [], ◌∷◌, ◌++◌, ℤ, IsTrue, IsErr, IfOk, Some, IfSome, IfNone, IsSomeAnd, None, true, codes};
 ghost use Rattle.nr_page.specs.Selection.{WritesNumber, SpellsItem, Spells, IsPageList, Includes, Selects};
 ghost use Rattle.nr_page.specs.SelectionReading.{BeginsNoDigit, BeginsAfterItem};
 ghost use Rattle.nr_page.specs.declared.selection.PageRange.{PageRange as Item};
@@ -123,6 +123,13 @@ impl Select {
         let mut list = ArrayVec::new();
         let _ = list.try_extend_from_slice(items.as_slice());
         Select { list: Some(list) }
+    }
+
+    /// Whether there is no list: every page is printed.
+    pub fn is_all(&self) -> bool
+        ensures { result ≡ true → self.now ≡ None }
+    {
+        self.list.is_none()
     }
 
     /// Whether the page of that number is selected. The number may be 0 or negative: `-N` selects those pages too.

@@ -15,4 +15,4 @@ few_of : (b : Bounds) (s : Sizes) → s ≡ sizes_of b → sum_of s ≤ 4 * b.st
 few_of b s is = subst (λ (t : Sizes). sum_of t ≤ 4 * b.stored + 4 * b.depth + 6 * b.cells + 8192) (sym is) (few b)
 
 pub returns-clause-bound : goal.returns-clause-bound
-returns-clause-bound c = few_of c.args.self.now c.memory.result (c.memory.ensures c.self.inside.limits c.self.invariant ∙ ap sizes_of c.self.view_is)
+returns-clause-bound c = few_of c.args.self.now c.memory.result (c.memory.ensures c.self.inside.limits c.self.invariant.0 ∙ ap sizes_of c.self.view_is)
