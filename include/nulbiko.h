@@ -177,7 +177,9 @@ enum nulbiko_outcome nulbiko_document(const struct nulbiko_limits *limits, const
                                       const void *input, size_t length, void *output, size_t capacity,
                                       struct nulbiko_report *report);
 
-/* What is kept for many pages that are set alike: how they are set, a copy of the macros, and the memory of the formatter. */
+/* What is kept for many pages that are set alike: how they are set, a copy of the macros, and the memory of the formatter, twice:
+ * once as it stands after the macros, so that they are read once. Macros that end a page, end the run or stop at a limit, or that
+ * there is no memory for to keep them so, are read with each page. What a page prints is the same. */
 struct nulbiko_handle;
 
 /* Opens a handle. At another outcome than NULBIKO_DONE it is null: NULBIKO_OUT_OF_RANGE, NULBIKO_NULL,

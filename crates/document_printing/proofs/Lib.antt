@@ -1,3 +1,4 @@
+pub mod AfterMacros
 pub mod Carried
 pub mod Prefixes
 pub mod Reached

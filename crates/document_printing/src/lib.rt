@@ -1,12 +1,13 @@
 //! A whole page in one program: what the formatter reads of it is formatted after macros.
 //!
 //! It stands on document_reader, document_stages, mdoc_converter, tbl_stage, tbl_setting, nr_engine, nr_machine, nr_options, utf8_converter, utf8_own_sink,
-//! utf8_own_characters, utf8_characters, nr_vectors and nr_units. To read: `setup`, `prefix`; `pulling`, `setting`, `printing`; `showing`, `laws`.
+//! utf8_own_characters, utf8_characters, nr_vectors and nr_units. To read: `setup`, `prefix`; `joining`, `pulling`, `setting`, `printing`; `showing`, `laws`.
 //!
 //! Proved: A write fault is reported where a put failed, and none failed where all went out. (`write_faults` of
 //! `print` and `print_shown`)
 #![tactic(auto)]
 
+mod joining;
 mod laws;
 mod prefix;
 mod printing;

@@ -8,10 +8,11 @@ ghost use Rattle.document_stages.specs.Joined.{preceded};
 ghost use Rattle.document_stages.specs.Pulling.{broken_off};
 ghost use Rattle.document_reader.specs.Page.{IsShort, breaks_off, man_of, man_so_far, plain_so_far, plain_supply};
 
+use super::joining::format_joined;
 use super::setup::Setup;
 use document_reader::{Places, read_page};
-use document_stages::{Joined, Lines};
-use nr_engine::{Desk, Outcome, format};
+use document_stages::Lines;
+use nr_engine::{Desk, Outcome};
 use nr_units::sink::Sink;
 use nr_units::source::Source;
 
@@ -59,11 +60,10 @@ pub(crate) fn pull<R: Source + Drop, W: Sink>(
     ensures write_faults { W.failures output.new ≡ put_counted_if (is_write_fault result.outcome) (W.failures output.old) }
 {
     let mut places = Places::new();
-    let page = read_page(input, setup.stages, setup.characters, places.lend());
-    let mut all = Joined::over(setup.macros, page);
+    let mut page = read_page(input, setup.stages, setup.characters, places.lend());
     let mut moves = 0;
-    let outcome = format(desk.lend(), setup.options, &mut all, output, &mut moves);
-    let line = all.second().line();
+    let outcome = format_joined(&mut page, setup, desk, output, &mut moves);
+    let line = page.line();
     Pulled {
         outcome,
         line,

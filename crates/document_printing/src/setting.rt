@@ -9,11 +9,12 @@ ghost use Rattle.document_stages.specs.Pulling.{broken_off};
 ghost use Rattle.document_reader.specs.Page.{IsShort, breaks_off, man_of, man_so_far, plain_so_far, plain_supply};
 ghost use Rattle.tbl_stage.specs.Text.{bounds_in, set_text};
 
+use super::joining::format_joined;
 use super::pulling::{Pulled, SetTables};
 use super::setup::Setup;
 use document_reader::{Places, read_page};
-use document_stages::{Joined, Lines};
-use nr_engine::{Desk, format};
+use document_stages::Lines;
+use nr_engine::Desk;
 use nr_units::sink::Sink;
 use nr_units::source::Source;
 use tbl_setting::Complaint;
@@ -45,11 +46,9 @@ pub(crate) fn pull_set<R: Source + Drop, W: Sink>(
 {
     let mut places = Places::new();
     let page = read_page(input, setup.stages, setup.characters, places.lend());
-    let text = set_tables(page, rooms, complaints);
-    let mut all = Joined::over(setup.macros, text);
+    let mut text = set_tables(page, rooms, complaints);
     let mut moves = 0;
-    let outcome = format(desk.lend(), setup.options, &mut all, output, &mut moves);
-    let text = all.second();
+    let outcome = format_joined(&mut text, setup, desk, output, &mut moves);
     let line = text.line();
     let turner = text.stage();
     let tables = SetTables {

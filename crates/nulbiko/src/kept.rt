@@ -5,7 +5,7 @@ ghost use Rattle.nulbiko.specs.Formatting.{bounds_of};
 ghost use Rattle.nulbiko.specs.Own.{AreShort, PrintsPage};
 ghost use Rattle.nulbiko.specs.Reported.{nothing_reported};
 
-use super::document::{Asked, DocumentSetup, print_in};
+use super::document::{Asked, DocumentSetup, options_for, print_in};
 use super::printed::Memory;
 use super::reported::Report;
 use nr_engine::{CountedAlloc, Limits};
@@ -33,7 +33,9 @@ impl Kept {
     {
         let mut copy = Vec::with_capacity(alloc, macros.len())?;
         copy.extend_from_slice(macros)?;
-        let memory = Memory::new(&mut CountedAlloc::new(alloc), limits)?;
+        let mut counted = CountedAlloc::new(alloc);
+        let mut memory = Memory::new(&mut counted, limits)?;
+        memory.keep(&mut counted, options_for(setup.options), macros);
         let kept = Box::new(
             alloc,
             Kept {

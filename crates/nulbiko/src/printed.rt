@@ -23,7 +23,7 @@ use document_printing::{
     print_shown,
 };
 use document_reader::{Places, read_own_page};
-use nr_engine::{CountedAlloc, Desk, Limits};
+use nr_engine::{CountedAlloc, Desk, Limits, Options};
 use nr_units::sink::Sink;
 use nr_units::source::Fault;
 use preconv_converter::Target;
@@ -88,6 +88,13 @@ impl Memory {
         let desk = Desk::new(alloc, limits)?;
         let rooms = Rooms::new(alloc, NO_TABLES, 0, None)?;
         Ok(Memory { rooms, desk })
+    }
+
+    /// Reads the macros that stand before pages once, with these options, where there is memory for what comes of them.
+    pub(crate) fn keep(&mut self, alloc: &mut CountedAlloc, options: Options, macros: &[u8])
+        ensures desk { self.new.desk ≡ self.old.desk }
+    {
+        let _ = self.desk.keep(alloc, options, macros);
     }
 }
 
