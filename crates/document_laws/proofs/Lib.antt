@@ -1,3 +1,4 @@
 pub mod Documents
 pub mod Lines
 pub mod OwnLines
+pub mod Rooms

@@ -1,16 +1,20 @@
 -- Laws of a whole document, whatever the page is.
 use Prim.Native.Char.{code}
-use Rattle.std.specs.Prelude.{◌≡◌, ◌≤◌, ℕ, ◌+◌, ◌*◌, ◌||◌, ◌==◌, List, [], Bool, true, false, Some}
+use Rattle.std.specs.Prelude.{◌≡◌, ◌≤◌, ℕ, ◌+◌, ◌*◌, ◌&&◌, ◌||◌, ◌==◌, nat_le, List, [], Bool, true, false, Option, Some}
 use Rattle.std.specs.List.{All}
 use Rattle.nr_units.specs.Source.{Supply}
-use Rattle.nr_options.specs.Limits.{Bounds}
+use Rattle.nr_options.specs.Limits as limits
 use Rattle.nr_machine.specs.Run.{moves_a_byte}
 use Rattle.nr_laws.specs.Laws.{AtLeast, IsPrefixOf, is_settled}
 use Rattle.nr_laws.specs.Printed.{is_of_row}
-use Rattle.document_printing.specs.Document.{Setting, state_of}
+use Rattle.document_stages.specs.Pulling.{is_known, whole}
+use Rattle.document_reader.specs.Page.{plain_of}
+use Rattle.tbl_stage.specs.Staged.{has_all}
+use Rattle.tbl_stage.specs.Text.{Bounds, first_in, most_of}
+use Rattle.document_printing.specs.Document.{Setting, source_of, state_of}
 use Rattle.document_printing.specs.Showing.{Shows}
 use Rattle.document_printing.specs.declared.setup.PageEnd.{PageEnd}
-use Rattle.document_printing.specs.declared.setup.PageEnd.TheVariants.{Done, Limit}
+use Rattle.document_printing.specs.declared.setup.PageEnd.TheVariants.{Done, Limit, NoRoom, ReadFault}
 use Rattle.document_printing.specs.declared.showing.Spelling.{Spelling}
 use Rattle.document_printing.specs.declared.showing.Spelling.TheVariants.{Bytes}
 
@@ -27,13 +31,13 @@ pub record Reaches (s : Setting) (spelling : Spelling) (source : Supply) (n : �
   pub shows : Shows s spelling source n outcome (Some []) (Some out)
 
 -- the same setting under other limits
-abbrev pub under : Bounds → Setting → Setting
+abbrev pub under : limits.Bounds → Setting → Setting
 under b s = record s { limits = b }
 
 -- Wider limits only lengthen what a reader gets.
 abbrev pub WiderLimitsLengthen : Type 0
 WiderLimitsLengthen =
-    (s : Setting) (b : Bounds) (spelling : Spelling) (source : Supply) (n n' : ℕ) (outcome outcome' : PageEnd)
+    (s : Setting) (b : limits.Bounds) (spelling : Spelling) (source : Supply) (n n' : ℕ) (outcome outcome' : PageEnd)
     (out out' : List ℕ)
     → AtLeast s.limits b → Reaches s spelling source n outcome out
     → Reaches (under b s) spelling source n' outcome' out' → IsPrefixOf out out'
@@ -41,7 +45,7 @@ WiderLimitsLengthen =
 -- Where all was shown, it is the same.
 abbrev pub DoneStays : Type 0
 DoneStays =
-    (s : Setting) (b : Bounds) (spelling : Spelling) (source : Supply) (n n' : ℕ) (outcome' : PageEnd)
+    (s : Setting) (b : limits.Bounds) (spelling : Spelling) (source : Supply) (n n' : ℕ) (outcome' : PageEnd)
     (out out' : List ℕ)
     → AtLeast s.limits b → Reaches s spelling source n Done out
     → Reaches (under b s) spelling source n' outcome' out' → (n ≡ n') × (Done ≡ outcome') × (out ≡ out')
@@ -65,3 +69,24 @@ abbrev pub NoControlGoesOut : Type 0
 NoControlGoesOut =
     (s : Setting) (source : Supply) (n : ℕ) (outcome : PageEnd) (out : List ℕ)
     → Reaches s Bytes source n outcome out → All (λ byte. (is_of_row byte || byte == 8) ≡ true) out
+
+-- ---- a page is read to its end
+
+-- it was not: it broke off, or a table had no room
+abbrev pub is_cut : PageEnd → Bool
+is_cut NoRoom = true
+is_cut ReadFault = true
+is_cut outcome = false
+
+-- the tables of a text have room, where they are set
+abbrev pub has_room : Bool → Bounds → List ℕ → Bool
+has_room true b text =
+    is_known (whole text) 0 (nat_le (most_of b + 1) b.room) && has_all (most_of b) (first_in b) text
+has_room false b text = true
+
+-- A page that comes whole, and whose tables have room, is read to its end, unless a limit stops it or the output fails.
+abbrev pub RoomIsEnough : Type 0
+RoomIsEnough =
+    (s : Setting) (spelling : Spelling) (page : List ℕ) (n : ℕ) (outcome : PageEnd) (held new : Option (List ℕ))
+    → has_room s.sets s.tables (plain_of s.stages s.characters page) ≡ true
+    → Shows s spelling (source_of s (whole page)) n outcome held new → is_cut outcome ≡ false

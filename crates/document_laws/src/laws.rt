@@ -1,5 +1,5 @@
 //! Laws of a document, each the contract of a function that does nothing: they speak of the definitions alone, over an empty output.
-ghost use Rattle.document_laws.specs.Laws.{DoneStays, FewMoves, NoControlGoesOut, OneDocument, WiderLimitsLengthen};
+ghost use Rattle.document_laws.specs.Laws.{DoneStays, FewMoves, NoControlGoesOut, OneDocument, RoomIsEnough, WiderLimitsLengthen};
 
 /// Under limits that are each at least as wide, a reader gets all that the narrower ones gave, and it may be, more.
 ///
@@ -32,4 +32,12 @@ pub fn few_moves()
 /// are among them, whatever the page is. (In UTF-8: `reaches_terminal` of document_printing.)
 pub fn no_control_goes_out()
     ensures { NoControlGoesOut }
+{}
+
+/// A page that comes whole, and whose tables have room, is read to its end.
+///
+/// Proved: A page that comes whole, and no line or end of which makes more of a table at once than there is room for, ends by
+/// no read fault and by no want of room.
+pub fn room_is_enough()
+    ensures { RoomIsEnough }
 {}

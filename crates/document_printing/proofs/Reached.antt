@@ -23,7 +23,7 @@ use Rattle.document_printing.specs.declared.setup.PageEnd.TheVariants as outcome
 use Rattle.document_printing.specs.declared.showing.PageTable.TheVariants.{Fixed}
 use Rattle.document_printing.specs.declared.showing.Spelling.{Spelling}
 use Rattle.document_printing.specs.declared.showing.Spelling.TheVariants.{Bytes, Utf8}
-use Rattle.document_printing.specs.Document.{GoesOut, Prints, Setting, TellsWrites, pages_of}
+use Rattle.document_printing.specs.Document.{GoesOut, Prints, Setting, TellsWrites, pages_of, read_fault}
 use Rattle.document_printing.specs.Showing.{IsPrefix, IsShown, Shows, document, shown, reported_shown}
 use Rattle.document_printing.specs.Laws.{IsPrefixOfText, is_whole}
 
@@ -38,10 +38,10 @@ shows_goes s source n ended held new g = record { ran = g.ran; out = g.out }
 pub shows-bytes : (s : Setting) (source : Supply) (n : ℕ) (o : PageEnd) (held new : Option (List ℕ)) → Prints s source n o held new → Shows s Bytes source n o held new
 shows-bytes s source n outcomes.Done held new p = shows_goes s source n machines.Done held new p
 shows-bytes s source n (outcomes.Limit which at) held new p = shows_goes s source n (machines.Limit which at) held new p
-shows-bytes s source n outcomes.NoRoom held new p = p
-shows-bytes s source n outcomes.ReadFault held new p = prefixes held new (pages_of s source n) p
-shows-bytes s source n outcomes.TooLong held new p = prefixes held new (pages_of s source n) p
-shows-bytes s source n outcomes.WriteFault held new p = record { made = suc n; few = omega arith; prefix = p }
+shows-bytes s source n outcomes.NoRoom held new p = (p.0, shows_goes s source n (read_fault s source n) held new p.1)
+shows-bytes s source n outcomes.ReadFault held new p = record { ran = p.ran; prefix = prefixes held new (pages_of s source n) p.out }
+shows-bytes s source n outcomes.TooLong held new p = record { ran = p.ran; prefix = prefixes held new (pages_of s source n) p.out }
+shows-bytes s source n outcomes.WriteFault held new p = record { made = suc n; few = omega arith; prefix = p.prefix }
 
 pub shows-bytes-as : (w : Spelling) (s : Setting) (source : Supply) (n : ℕ) (o : PageEnd) (held new : Option (List ℕ)) → w ≡ Bytes → Prints s source n o held new → Shows s w source n o held new
 shows-bytes-as w s source n o held new is p = subst (λ (x : Spelling). Shows s x source n o held new) (sym is) (shows-bytes s source n o held new p)
@@ -97,16 +97,16 @@ shows-ended s w begun failed source n outcomes.Done before bytes none puts new a
 shows-ended s w begun failed source n outcomes.Done before bytes none puts new after (Err f) zero e p tells = record { made = n; few = omega arith; prefix = prefix_shown s w begun failed source n before bytes puts new after f e p.out }
 shows-ended s w begun failed source n (outcomes.Limit which at) before bytes none puts new after (Ok k) zero e p tells = record { ran = p.ran; out = all_shown s w begun failed source n before bytes puts new after k e p.out }
 shows-ended s w begun failed source n (outcomes.Limit which at) before bytes none puts new after (Err f) zero e p tells = record { made = n; few = omega arith; prefix = prefix_shown s w begun failed source n before bytes puts new after f e p.out }
-shows-ended s w begun failed source n outcomes.NoRoom before bytes none puts new after (Ok k) zero e p tells = (p.0, all_shown s w begun failed source n before bytes puts new after k e p.1)
-shows-ended s w begun failed source n outcomes.NoRoom before bytes none puts new after (Err f) zero e p tells = record { made = n; few = omega arith; prefix = prefix_shown s w begun failed source n before bytes puts new after f e p.1 }
-shows-ended s w begun failed source n outcomes.ReadFault before bytes none puts new after (Ok k) zero e p tells = some_shown s w begun failed source n before bytes puts new after (Ok k) e p
-shows-ended s w begun failed source n outcomes.ReadFault before bytes none puts new after (Err f) zero e p tells = some_shown s w begun failed source n before bytes puts new after (Err f) e p
-shows-ended s w begun failed source n outcomes.TooLong before bytes none puts new after (Ok k) zero e p tells = some_shown s w begun failed source n before bytes puts new after (Ok k) e p
-shows-ended s w begun failed source n outcomes.TooLong before bytes none puts new after (Err f) zero e p tells = some_shown s w begun failed source n before bytes puts new after (Err f) e p
+shows-ended s w begun failed source n outcomes.NoRoom before bytes none puts new after (Ok k) zero e p tells = (p.0, record { ran = p.1.ran; out = all_shown s w begun failed source n before bytes puts new after k e p.1.out })
+shows-ended s w begun failed source n outcomes.NoRoom before bytes none puts new after (Err f) zero e p tells = record { made = n; few = omega arith; prefix = prefix_shown s w begun failed source n before bytes puts new after f e p.1.out }
+shows-ended s w begun failed source n outcomes.ReadFault before bytes none puts new after (Ok k) zero e p tells = record { ran = p.ran; prefix = some_shown s w begun failed source n before bytes puts new after (Ok k) e p.out }
+shows-ended s w begun failed source n outcomes.ReadFault before bytes none puts new after (Err f) zero e p tells = record { ran = p.ran; prefix = some_shown s w begun failed source n before bytes puts new after (Err f) e p.out }
+shows-ended s w begun failed source n outcomes.TooLong before bytes none puts new after (Ok k) zero e p tells = record { ran = p.ran; prefix = some_shown s w begun failed source n before bytes puts new after (Ok k) e p.out }
+shows-ended s w begun failed source n outcomes.TooLong before bytes none puts new after (Err f) zero e p tells = record { ran = p.ran; prefix = some_shown s w begun failed source n before bytes puts new after (Err f) e p.out }
 shows-ended s w begun failed source n outcomes.WriteFault before bytes none puts new after (Ok k) zero e p tells =
-    short_shown s w begun failed source n before bytes puts new after (Ok k) e p (λ none_did. next_some (sym (ap next_count zero) ∙ sym tells ∙ none_did))
+    short_shown s w begun failed source n before bytes puts new after (Ok k) e p.prefix (λ none_did. next_some (sym (ap next_count zero) ∙ sym tells ∙ none_did))
 shows-ended s w begun failed source n outcomes.WriteFault before bytes none puts new after (Err f) zero e p tells =
-    short_shown s w begun failed source n before bytes puts new after (Err f) e p (λ none_did. next_some (sym (ap next_count zero) ∙ sym tells ∙ none_did))
+    short_shown s w begun failed source n before bytes puts new after (Err f) e p.prefix (λ none_did. next_some (sym (ap next_count zero) ∙ sym tells ∙ none_did))
 
 pub shows-as : {T : Type 0} (s : Setting) (w : Spelling) (begun : Option (List ℕ)) (failed : ℕ) (source : Supply) (n : ℕ) (v : Spelling) (k : ℕ) (o said : PageEnd) (before bytes : List ℕ) (none puts : ℕ) (new : Option (List ℕ)) (after : ℕ) (x : Result T Fault)
     → v ≡ w → k ≡ n → said ≡ reported_shown o (is_err x) → none ≡ 0 → Ended T w begun failed before bytes puts new after x
@@ -137,8 +137,8 @@ tells-ended s w begun failed source n outcomes.Done before bytes none puts new a
 tells-ended s w begun failed source n outcomes.Done before bytes none puts new after (Err f) zero e p tells = cut w begun failed before bytes (pages_of s source n) puts new after f e p.out
 tells-ended s w begun failed source n (outcomes.Limit which at) before bytes none puts new after (Ok k) zero e p tells = went w begun failed before bytes (pages_of s source n) puts new after k e p.out
 tells-ended s w begun failed source n (outcomes.Limit which at) before bytes none puts new after (Err f) zero e p tells = cut w begun failed before bytes (pages_of s source n) puts new after f e p.out
-tells-ended s w begun failed source n outcomes.NoRoom before bytes none puts new after (Ok k) zero e p tells = went w begun failed before bytes (pages_of s source n) puts new after k e p.1
-tells-ended s w begun failed source n outcomes.NoRoom before bytes none puts new after (Err f) zero e p tells = cut w begun failed before bytes (pages_of s source n) puts new after f e p.1
+tells-ended s w begun failed source n outcomes.NoRoom before bytes none puts new after (Ok k) zero e p tells = went w begun failed before bytes (pages_of s source n) puts new after k e p.1.out
+tells-ended s w begun failed source n outcomes.NoRoom before bytes none puts new after (Err f) zero e p tells = cut w begun failed before bytes (pages_of s source n) puts new after f e p.1.out
 tells-ended s w begun failed source n outcomes.ReadFault before bytes none puts new after (Ok k) zero e p tells = tt
 tells-ended s w begun failed source n outcomes.ReadFault before bytes none puts new after (Err f) zero e p tells = tt
 tells-ended s w begun failed source n outcomes.TooLong before bytes none puts new after (Ok k) zero e p tells = tt
@@ -146,7 +146,7 @@ tells-ended s w begun failed source n outcomes.TooLong before bytes none puts ne
 tells-ended s w begun failed source n outcomes.WriteFault before bytes none puts new after (Ok k) zero e p tells =
     let ok : puts ≡ 0 = e.fails refl in
     absurd (next_some (sym (ap next_count zero) ∙ sym tells ∙ ok))
-tells-ended s w begun failed source n outcomes.WriteFault before bytes none puts new after (Err f) zero e p tells = cut w begun failed before bytes p.0 puts new after f e p.3
+tells-ended s w begun failed source n outcomes.WriteFault before bytes none puts new after (Err f) zero e p tells = cut w begun failed before bytes p.prefix.0 puts new after f e p.prefix.3
 
 pub tells-as : {T : Type 0} (s : Setting) (w : Spelling) (begun : Option (List ℕ)) (failed : ℕ) (source : Supply) (n : ℕ) (o said : PageEnd) (before bytes : List ℕ) (none puts : ℕ) (new : Option (List ℕ)) (after : ℕ) (x : Result T Fault) → said ≡ reported_shown o (is_err x) → none ≡ 0 → Ended T w begun failed before bytes puts new after x
     → Prints s source n o (Some before) (Some bytes) → TellsWrites o none puts → TellsWrites said failed after
@@ -210,7 +210,7 @@ pub reached : (s : Setting) (table : FixedTable) (escapes : Bool) (source : Supp
     → is_whole o ≡ true → Shows s (Utf8 (Fixed table) escapes) source n o (Some []) (Some bytes) → IsText escapes bytes
 reached s table escapes source n outcomes.Done bytes all shows = text_of table escapes (pages_of s source n) bytes shows.out
 reached s table escapes source n (outcomes.Limit which at) bytes all shows = text_of table escapes (pages_of s source n) bytes shows.out
-reached s table escapes source n outcomes.NoRoom bytes all shows = text_of table escapes (pages_of s source n) bytes shows.1
+reached s table escapes source n outcomes.NoRoom bytes all shows = text_of table escapes (pages_of s source n) bytes shows.1.out
 reached s table escapes source n outcomes.ReadFault bytes all shows = absurd (let never : false ≡ true = all in cc)
 reached s table escapes source n outcomes.TooLong bytes all shows = absurd (let never : false ≡ true = all in cc)
 reached s table escapes source n outcomes.WriteFault bytes all shows = absurd (let never : false ≡ true = all in cc)

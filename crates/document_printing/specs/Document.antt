@@ -75,15 +75,24 @@ pub record GoesOut (s : Setting) (source : Supply) (n : ℕ) (ended : machine.Ou
   pub ran : Ran s source n ended
   pub out : Appends held new (pages_of s source n)
 
--- HOW A DOCUMENT ENDS. Where the output fails, a prefix of the pages that stand after one move more went out; where the page
--- breaks off, or tables have no room, the pages until then did.
+-- the machine wants the next byte there, and its source may fail
+abbrev pub read_fault : Setting → Supply → ℕ → machine.Outcome
+read_fault s source n = machines.ReadFault (state_of s source n).coming.taken
+
+-- the next move ends a page, and a prefix of the pages that stand then went out
+pub record IsBrokenOff (s : Setting) (source : Supply) (n : ℕ) (held new : Option (List ℕ)) : Type 0 where
+  pub ran : Ran s source n machines.WriteFault
+  pub prefix : AppendsPrefix held new (pages_of s source (suc n))
+
+-- HOW A DOCUMENT ENDS. Where the page breaks off, or tables have no room, that is where the machine wants the next byte of a
+-- source that fails there.
 abbrev pub Prints : Setting → Supply → ℕ → PageEnd → Option (List ℕ) → Option (List ℕ) → Type 0
 Prints s source n outcomes.Done held new = GoesOut s source n machines.Done held new
 Prints s source n (outcomes.Limit which at) held new = GoesOut s source n (machines.Limit which at) held new
-Prints s source n outcomes.NoRoom held new = (s.sets ≡ true) × Appends held new (pages_of s source n)
-Prints s source n outcomes.ReadFault held new = Appends held new (pages_of s source n)
-Prints s source n outcomes.TooLong held new = Appends held new (pages_of s source n)
-Prints s source n outcomes.WriteFault held new = AppendsPrefix held new (pages_of s source (suc n))
+Prints s source n outcomes.NoRoom held new = (s.sets ≡ true) × GoesOut s source n (read_fault s source n) held new
+Prints s source n outcomes.ReadFault held new = GoesOut s source n (read_fault s source n) held new
+Prints s source n outcomes.TooLong held new = GoesOut s source n machines.TooLong held new
+Prints s source n outcomes.WriteFault held new = IsBrokenOff s source n held new
 
 -- One put failed where that is reported, and none where all went out, by the counts of those that did.
 abbrev pub TellsWrites : PageEnd → ℕ → ℕ → Type 0

@@ -7,7 +7,7 @@ use Rattle.nr_machine.specs.declared.outcome.Outcome as machine
 use Rattle.nr_machine.specs.declared.outcome.Outcome.TheVariants as machines
 use Rattle.utf8_converter.specs.Cells as fixed
 use Rattle.utf8_own_sink.specs.Cells as own
-use Rattle.document_printing.specs.Document.{Ran, Setting, pages_of}
+use Rattle.document_printing.specs.Document.{Ran, Setting, pages_of, read_fault}
 use Rattle.document_printing.specs.declared.setup.PageEnd.{PageEnd}
 use Rattle.document_printing.specs.declared.setup.PageEnd.TheVariants as outcomes
 use Rattle.document_printing.specs.declared.showing.PageTable.{PageTable}
@@ -35,6 +35,12 @@ pub record IsShown (s : Setting) (spelling : Spelling) (source : Supply) (n : �
   pub ran : Ran s source n ended
   pub out : Appends held new (document s spelling source n)
 
+-- the same, and of all that it printed until then a prefix is shown
+pub record IsCut (s : Setting) (spelling : Spelling) (source : Supply) (n : ℕ) (ended : machine.Outcome)
+    (held new : Option (List ℕ)) : Type 0 where
+  pub ran : Ran s source n ended
+  pub prefix : AppendsPrefix held new (document s spelling source n)
+
 -- Where the output fails, a prefix of the document went out, after so many moves or one more.
 pub record IsPrefix (s : Setting) (spelling : Spelling) (source : Supply) (n : ℕ) (held new : Option (List ℕ)) : Type 0 where
   pub made : ℕ
@@ -46,9 +52,10 @@ abbrev pub Shows : Setting → Spelling → Supply → ℕ → PageEnd → Optio
 Shows s spelling source n outcomes.Done held new = IsShown s spelling source n machines.Done held new
 Shows s spelling source n (outcomes.Limit which at) held new =
     IsShown s spelling source n (machines.Limit which at) held new
-Shows s spelling source n outcomes.NoRoom held new = (s.sets ≡ true) × Appends held new (document s spelling source n)
-Shows s spelling source n outcomes.ReadFault held new = AppendsPrefix held new (document s spelling source n)
-Shows s spelling source n outcomes.TooLong held new = AppendsPrefix held new (document s spelling source n)
+Shows s spelling source n outcomes.NoRoom held new =
+    (s.sets ≡ true) × IsShown s spelling source n (read_fault s source n) held new
+Shows s spelling source n outcomes.ReadFault held new = IsCut s spelling source n (read_fault s source n) held new
+Shows s spelling source n outcomes.TooLong held new = IsCut s spelling source n machines.TooLong held new
 Shows s spelling source n outcomes.WriteFault held new = IsPrefix s spelling source n held new
 
 -- how an end is reported of a page whose characters did not all go out: that its input failed first

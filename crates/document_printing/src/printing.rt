@@ -59,8 +59,8 @@ fn report_of(pulled: Pulled) -> Report
 /// Proved: Where a limit is passed, it is one that the machine over the text of `Prints` would pass with the next
 /// move, and the pages that had ended by then went out, and no other byte. Where the output fails, a prefix of these
 /// and of the page that the next move ends did.
-/// Proved: Where what goes out of a table at once has no room, the pages went out that had ended by then, over what
-/// went out of tables before.
+/// Proved: Where what goes out of a table at once has no room, or the page breaks off, the machine wants the next byte
+/// where its source fails, and the pages that had ended by then went out. (`room_is_enough` of document_laws)
 /// Proved: A desk keeps its limits, so that one serves for many pages. (`desk` of `print` and `print_shown`)
 /// Proved: Of a page that breaks off after so many bytes the same is true over what the stages make of these bytes, but
 /// for what is half read. (`cut` of `print`)

@@ -60,7 +60,7 @@ not_long refusals.Expansions ForExpansions e = cc
 not_long refusals.ReadFault l e = elim l [ ]
 not_long refusals.TooLong l e = elim l [ ]
 
-not_fault : (r : Refusal) → ForLimit r → r ≡ refusals.ReadFault → ⊥
+pub not_fault : (r : Refusal) → ForLimit r → r ≡ refusals.ReadFault → ⊥
 not_fault refusals.Stored ForStored e = cc
 not_fault refusals.Depth ForDepth e = cc
 not_fault refusals.Expansions ForExpansions e = cc

@@ -6,7 +6,7 @@ use Rattle.nr_options.specs.declared.options.Options.{Options}
 use Rattle.nr_machine.specs.State.{State, start}
 use Rattle.nr_machine.specs.Machine.{step, state_after}
 use Rattle.nr_machine.specs.Printing.{text}
-use Rattle.nr_machine.specs.Run.{Answers, kind, Over}
+use Rattle.nr_machine.specs.Run.{Answers, Ends, kind, Over}
 use Rattle.nr_machine.specs.declared.outcome.Outcome.{Outcome}
 use Rattle.nr_machine.specs.declared.outcome.Outcome.TheVariants.{Done, Limit, ReadFault, WriteFault}
 use Rattle.nr_laws.specs.Limited.{state_under}
@@ -136,3 +136,9 @@ OneAnswer =
     → AnswersWith b options supply n outcome out → AnswersWith b options supply n' outcome' out'
     → is_settled supply.faults outcome ≡ true → is_settled supply.faults outcome' ≡ true → (n ≡ n')
     × (outcome ≡ outcome') × (out ≡ out')
+
+-- A source that fails at no call ends no run by a read fault.
+abbrev pub FaultsAreOfTheSource : Type 0
+FaultsAreOfTheSource =
+    (b : Bounds) (options : Options) (supply : Supply) (most n at : ℕ)
+    → supply.faults ≡ Never → Ends most n (state_after n (start b options supply)) (ReadFault at) → ⊥

@@ -1,5 +1,5 @@
 //! Laws of the output, each the contract of a function that does nothing: they speak of the definitions alone, over an empty sink.
-ghost use Rattle.nr_laws.specs.Laws.{LimitsOnlyStop, NoLimitAsked, LimitsCut, LimitsCutOutput, DoneIsWhole, OneWhole, WiderLimits, LimitsUnmet, OneAnswer};
+ghost use Rattle.nr_laws.specs.Laws.{LimitsOnlyStop, NoLimitAsked, LimitsCut, LimitsCutOutput, DoneIsWhole, OneWhole, WiderLimits, LimitsUnmet, OneAnswer, FaultsAreOfTheSource};
 ghost use Rattle.nr_laws.specs.Moves.{LimitsAreExact, MovesAreFew, MovesBeforeByte, MovesBetween};
 ghost use Rattle.nr_laws.specs.PlainText.{PlainTextStays};
 ghost use Rattle.nr_laws.specs.Printed.{NoByteIsAdded, NoHighControlGoesOut, NoControlGoesOut, BackspaceStrikes};
@@ -60,6 +60,13 @@ pub fn limits_unmet()
 /// of the sink, and of a source that may fail at any call.
 pub fn one_answer()
     ensures { OneAnswer }
+{}
+
+/// A run over a source that fails at no call ends by no read fault.
+///
+/// Proved: A source that fails at no call ends no run by a read fault.
+pub fn faults_are_of_the_source()
+    ensures { FaultsAreOfTheSource }
 {}
 
 /// In a run a move is refused at a limit exactly where it would lead to a state above that limit, also a move that reads; it is the

@@ -38,13 +38,17 @@ came s source n Done before (Some ys) p =
 came s source n (Limit which at) before None p = absurd p.out
 came s source n (Limit which at) before (Some ys) p =
     record { pages = pages_of s source n; prints = record { ran = p.ran; out = refl }; is = λ _. ap Some p.out }
-came s source n NoRoom before None p = absurd p.1
+came s source n NoRoom before None p = absurd p.1.out
 came s source n NoRoom before (Some ys) p =
-    record { pages = pages_of s source n; prints = (p.0, refl); is = λ _. ap Some p.1 }
-came s source n ReadFault before held p = record { pages = pages_of s source n; prints = refl; is = λ known. absurd known }
-came s source n TooLong before held p = record { pages = pages_of s source n; prints = refl; is = λ known. absurd known }
-came s source n WriteFault before None p = absurd p.3
-came s source n WriteFault before (Some ys) p = record { pages = p.0; prints = (p.0, p.1, p.2, refl); is = λ _. ap Some p.3 }
+    record { pages = pages_of s source n; prints = (p.0, record { ran = p.1.ran; out = refl }); is = λ _. ap Some p.1.out }
+came s source n ReadFault before held p = record { pages = pages_of s source n; prints = record { ran = p.ran; out = refl }; is = λ known. absurd known }
+came s source n TooLong before held p = record { pages = pages_of s source n; prints = record { ran = p.ran; out = refl }; is = λ known. absurd known }
+came s source n WriteFault before None p = absurd p.prefix.3
+came s source n WriteFault before (Some ys) p = record {
+  pages = p.prefix.0;
+  prints = record { ran = p.ran; prefix = (p.prefix.0, p.prefix.1, p.prefix.2, refl) };
+  is = λ _. ap Some p.prefix.3;
+}
 
 -- ---- as bytes
 

@@ -5,7 +5,7 @@ use Rattle.std.proofs.KnownBytes.{Appends-kept}
 use Rattle.nr_units.specs.Sink.{AppendsPrefix}
 use Rattle.nr_units.specs.Source.{Supply}
 use Rattle.document_printing.specs.Document.{Setting}
-use Rattle.document_printing.specs.Showing.{IsShown, Shows, document}
+use Rattle.document_printing.specs.Showing.{IsCut, IsShown, Shows, document}
 use Rattle.document_printing.specs.declared.setup.PageEnd.{PageEnd}
 use Rattle.document_printing.specs.declared.setup.PageEnd.TheVariants.{Done, Limit, NoRoom, ReadFault, TooLong, WriteFault}
 use Rattle.document_printing.specs.declared.setup.Report.{Report}
@@ -45,13 +45,20 @@ IsShown-kept s spelling source n ended a b c shown q = record {
   out = Appends-kept a b c (document s spelling source n) shown.out q;
 }
 
+IsCut-kept : (s : Setting) (spelling : Spelling) (source : Supply) (n : ℕ) (ended : machine.Outcome) (a b c : Option (List ℕ))
+    → IsCut s spelling source n ended a b → Keeps b c → IsCut s spelling source n ended a c
+IsCut-kept s spelling source n ended a b c cut q = record {
+  ran = cut.ran;
+  prefix = AppendsPrefix-kept a b c (document s spelling source n) cut.prefix q;
+}
+
 pub Shows-kept : (s : Setting) (spelling : Spelling) (source : Supply) (n : ℕ) (outcome : PageEnd) (a b c : Option (List ℕ))
     → Shows s spelling source n outcome a b → Keeps b c → Shows s spelling source n outcome a c
 Shows-kept s spelling source n Done a b c shows q = IsShown-kept s spelling source n _ a b c shows q
 Shows-kept s spelling source n (Limit which at) a b c shows q = IsShown-kept s spelling source n _ a b c shows q
-Shows-kept s spelling source n NoRoom a b c (sets, grown) q = (sets, Appends-kept a b c _ grown q)
-Shows-kept s spelling source n ReadFault a b c shows q = AppendsPrefix-kept a b c _ shows q
-Shows-kept s spelling source n TooLong a b c shows q = AppendsPrefix-kept a b c _ shows q
+Shows-kept s spelling source n NoRoom a b c (sets, shows) q = (sets, IsShown-kept s spelling source n _ a b c shows q)
+Shows-kept s spelling source n ReadFault a b c shows q = IsCut-kept s spelling source n _ a b c shows q
+Shows-kept s spelling source n TooLong a b c shows q = IsCut-kept s spelling source n _ a b c shows q
 Shows-kept s spelling source n WriteFault a b c shows q = record {
   made = shows.made;
   few = shows.few;
