@@ -4,7 +4,7 @@
 use Rattle.std.specs.Prelude.{ℕ, List, [], ◌∷◌, length, take, drop, slice_get, Bool, true, false, not, ◌==◌, ◌&&◌, ◌||◌, nat_lt, if◌then◌else◌, codes, Option, None, Some, is_some}
 use Rattle.std.specs.List.{insert, remove}
 use Rattle.std.specs.Str.{bytes_eq}
-use Rattle.mdoc_converter.specs.Macros.{macro_of}
+use Rattle.mdoc_words.specs.Macros.{macro_of}
 use Rattle.nr_vectors.specs.Items.{Items}
 use Rattle.filters_complaints.specs.Blocks.{place_of}
 use Rattle.mdoc_command.specs.declared.lines.Half.{Half}

@@ -1,7 +1,7 @@
 -- The words of a macro's line, and what is wrong with them (mdoc(7), MACRO OVERVIEW).
 use Rattle.std.specs.Prelude.{ℕ, ◌+◌, List, [], length, Bool, true, false, not, ◌==◌, ◌&&◌, ◌||◌, nat_lt, if◌then◌else◌, codes, Option, None, Some, is_some}
 use Rattle.std.specs.Str.{bytes_eq}
-use Rattle.mdoc_converter.specs.Laying.{library_named, standard_named, version_named}
+use Rattle.mdoc_layout.specs.Laying.{library_named, standard_named, version_named}
 use Rattle.mdoc_command.specs.declared.telling.Kind.{Kind}
 use Rattle.mdoc_command.specs.declared.telling.Kind.TheVariants as kinds
 use Rattle.mdoc_command.specs.declared.wording.Options.{Options}

@@ -8,7 +8,7 @@ use super::naming::Naming;
 use super::telling::{Complaint, Kind, report_broken, report_not_ended};
 use super::wording::Wording;
 use filters_complaints::{Complaints, OpenBlock, place_of};
-use mdoc_converter::is_macro;
+use mdoc_words::is_macro;
 use nr_units::Name;
 use nr_vectors::slice_vec::SliceVec;
 use std::marker::Model;

@@ -6,7 +6,7 @@ use super::names::{
     has_value, is_display_kind, is_flag, is_list_kind, is_mark, needs_words, takes_none,
 };
 use super::telling::Kind;
-use mdoc_converter::{is_library, is_standard, is_version};
+use mdoc_layout::{is_library, is_standard, is_version};
 use nr_units::Name;
 
 /// What of the options of a list or a display comes.

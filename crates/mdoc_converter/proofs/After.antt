@@ -1,6 +1,6 @@
 -- The state after many bytes.
 use Rattle.std.proofs.Common.{◌≡◌, ℕ, ◌≤◌, List, [], ◌∷◌, ◌++◌, refl, sym, ◌∙◌, ap, append_assoc}
-use Rattle.mdoc_converter.specs.declared.page.Scan.TheVariants as scans
+use Rattle.mdoc_layout.specs.declared.page.Scan.TheVariants as scans
 use Rattle.mdoc_converter.specs.Reading.{State, heard}
 use Rattle.mdoc_converter.specs.Saying.{parts_at, parts_of, state_after, words_of}
 use Rattle.mdoc_converter.proofs.Escapes.{heard-pending}

@@ -1,21 +1,22 @@
 -- The bytes of a line whose words are read for what they ask are not said.
 use Rattle.std.proofs.Common.{◌≡◌, ℕ, ◌≤◌, ◌+◌, [], ◌∷◌, length, Bool, true, false, not, nat_lt, ◌&&◌, ◌||◌, ◌==◌, if◌then◌else◌, Option, None, Some, refl, ◌∙◌, ap, arith}
 use Prim.Native.Char.{code}
-use Rattle.mdoc_converter.specs.declared.acts.Act.TheVariants as acts
-use Rattle.mdoc_converter.specs.declared.escaping.Escape.{Escape as Reached}
-use Rattle.mdoc_converter.specs.declared.macros.Macro.{Macro}
-use Rattle.mdoc_converter.specs.declared.macros.Macro.TheVariants as macros
-use Rattle.mdoc_converter.specs.declared.page.Inside.TheVariants as insides
-use Rattle.mdoc_converter.specs.declared.page.Page.{Page}
-use Rattle.mdoc_converter.specs.declared.page.Scan.{Scan}
-use Rattle.mdoc_converter.specs.declared.page.Scan.TheVariants as scans
-use Rattle.mdoc_converter.specs.Calls.{has_cells, is_item, is_none, is_pending, leaves, tab, takes_no_more, with_scan}
-use Rattle.mdoc_converter.specs.Escaping.{escape_then}
-use Rattle.mdoc_converter.specs.Keeping.{after_name, comment, continued, ends_escape, ends_word, in_named, in_word_of, keep, keep_begun, keep_blank, keep_byte, keep_quote, keeping, turns, whole_for}
-use Rattle.mdoc_converter.specs.Options.{is_column, is_heading, reads_for}
+use Rattle.mdoc_layout.specs.declared.acts.Act.TheVariants as acts
+use Rattle.mdoc_layout.specs.declared.page.Escape.{Escape as Reached}
+use Rattle.mdoc_layout.specs.declared.macros.Macro.{Macro}
+use Rattle.mdoc_layout.specs.declared.macros.Macro.TheVariants as macros
+use Rattle.mdoc_layout.specs.declared.page.Inside.TheVariants as insides
+use Rattle.mdoc_layout.specs.declared.page.Page.{Page}
+use Rattle.mdoc_layout.specs.declared.page.Scan.{Scan}
+use Rattle.mdoc_layout.specs.declared.page.Scan.TheVariants as scans
+use Rattle.mdoc_words.specs.Calls.{has_cells, is_item, is_none, is_pending, leaves, tab, takes_no_more, with_scan}
+use Rattle.mdoc_words.specs.Escaping.{escape_then}
+use Rattle.mdoc_words.specs.Keeping.{after_name, comment, continued, ends_escape, ends_word, in_named, in_word_of, keep, keep_begun, keep_blank, keep_byte, keep_quote, keeping, turns, whole_for}
+use Rattle.mdoc_layout.specs.Columns.{is_column}
+use Rattle.mdoc_words.specs.Options.{is_heading, reads_for}
 use Rattle.mdoc_converter.specs.Reading.{State}
 use Rattle.mdoc_converter.specs.Scanning.{offer, offer_at}
-use Rattle.mdoc_converter.specs.Seeing.{Offered, offered, left, two, taken, and_taken}
+use Rattle.mdoc_layout.specs.Seeing.{Offered, offered, left, two, taken, and_taken}
 use Rattle.mdoc_converter.specs.WrittenLines.{asks}
 use Rattle.mdoc_converter.proofs.AskedWords.{Asking, asking_as, Leading, Taking, left_leads, taken_takes, cell_takes, given_step, kept, kept_byte, asks_shown, asks_whole}
 use Rattle.mdoc_converter.proofs.ReadWords.{between_by}

@@ -1,31 +1,32 @@
 -- A word that is read for what it asks is not said.
 use Rattle.std.proofs.Common.{◌≡◌, ℕ, ◌+◌, List, [], ◌∷◌, ◌++◌, length, Bool, true, false, not, ◌&&◌, ◌||◌, ◌==◌, nat_lt, if◌then◌else◌, Option, None, Some, is_some, refl, ◌∙◌, ap}
 use Prim.Native.Char.{code}
-use Rattle.mdoc_converter.specs.declared.acts.Act.{Act}
-use Rattle.mdoc_converter.specs.declared.acts.Act.TheVariants as acts
-use Rattle.mdoc_converter.specs.declared.acts.Request.TheVariants as requests
-use Rattle.mdoc_converter.specs.declared.escaping.Escape.TheVariants as escapes
-use Rattle.mdoc_converter.specs.declared.macros.Font.{Font}
-use Rattle.mdoc_converter.specs.declared.macros.Macro.{Macro}
-use Rattle.mdoc_converter.specs.declared.macros.Macro.TheVariants as macros
-use Rattle.mdoc_converter.specs.declared.page.Asks.{Asks}
-use Rattle.mdoc_converter.specs.declared.page.Asks.TheVariants as asked_for
-use Rattle.mdoc_converter.specs.declared.page.Page.{Page}
-use Rattle.mdoc_converter.specs.declared.page.Scan.{Scan}
-use Rattle.mdoc_converter.specs.declared.page.Scan.TheVariants as scans
-use Rattle.mdoc_converter.specs.declared.page.Wanted.{Wanted}
-use Rattle.mdoc_converter.specs.declared.page.Wanted.TheVariants as wanteds
-use Rattle.mdoc_converter.specs.Calls.{called_by, is_none, with_scan}
-use Rattle.mdoc_converter.specs.Escaping.{escape_then}
-use Rattle.mdoc_converter.specs.Keeping.{after_prefix, ends_in_hyphen, has_dashes, in_named, is_titling, keep, keep_begun, keep_byte, keep_escape, keep_unshown, keeping, looks_up, whole_for, widens, wider, within, within_escape}
-use Rattle.mdoc_converter.specs.Laying.{with_lay}
-use Rattle.mdoc_converter.specs.LayingOut.{lay_out}
-use Rattle.mdoc_converter.specs.Options.{added_column, asked, block_asked, block_wanted, column, column_width, dated, date_word, font_named, font_or, is_column, is_heading, is_shown, is_version, none, option, option_for, option_word, reads_for, title_word, wants_column}
+use Rattle.mdoc_layout.specs.declared.acts.Act.{Act}
+use Rattle.mdoc_layout.specs.declared.acts.Act.TheVariants as acts
+use Rattle.mdoc_layout.specs.declared.acts.Request.TheVariants as requests
+use Rattle.mdoc_layout.specs.declared.page.Escape.TheVariants as escapes
+use Rattle.mdoc_layout.specs.declared.macros.Font.{Font}
+use Rattle.mdoc_layout.specs.declared.macros.Macro.{Macro}
+use Rattle.mdoc_layout.specs.declared.macros.Macro.TheVariants as macros
+use Rattle.mdoc_layout.specs.declared.page.Asks.{Asks}
+use Rattle.mdoc_layout.specs.declared.page.Asks.TheVariants as asked_for
+use Rattle.mdoc_layout.specs.declared.page.Page.{Page}
+use Rattle.mdoc_layout.specs.declared.page.Scan.{Scan}
+use Rattle.mdoc_layout.specs.declared.page.Scan.TheVariants as scans
+use Rattle.mdoc_layout.specs.declared.page.Wanted.{Wanted}
+use Rattle.mdoc_layout.specs.declared.page.Wanted.TheVariants as wanteds
+use Rattle.mdoc_words.specs.Calls.{called_by, is_none, with_scan}
+use Rattle.mdoc_words.specs.Escaping.{escape_then}
+use Rattle.mdoc_words.specs.Keeping.{after_prefix, ends_in_hyphen, has_dashes, in_named, is_titling, keep, keep_begun, keep_byte, keep_escape, keep_unshown, keeping, looks_up, whole_for, widens, wider, within, within_escape}
+use Rattle.mdoc_layout.specs.Laying.{with_lay}
+use Rattle.mdoc_layout.specs.LayingOut.{lay_out}
+use Rattle.mdoc_words.specs.Options.{added_column, asked, block_asked, block_wanted, column, column_width, dated, date_word, font_named, font_or, is_heading, is_shown, is_version, option, option_for, option_word, reads_for, title_word, wants_column}
+use Rattle.mdoc_layout.specs.Columns.{is_column}
+use Rattle.mdoc_layout.specs.Seeing.{Offered, and_taken, left, none, offered, taken, three, two}
 use Rattle.mdoc_converter.specs.Reading.{State, said}
 use Rattle.mdoc_converter.specs.Saying.{part_of, parts_seen, words_of}
 use Rattle.mdoc_converter.specs.Scanning.{offer, offer_at, offer_whole, offer_whole_at}
-use Rattle.mdoc_converter.specs.Seeing.{Offered, offered, left, taken, three, two, and_taken}
-use Rattle.mdoc_converter.specs.Words.{ends_long, heading_calls, parsed}
+use Rattle.mdoc_words.specs.Words.{ends_long, heading_calls, parsed}
 use Rattle.mdoc_converter.specs.WrittenLines.{asks}
 use Rattle.mdoc_converter.proofs.Offering.{with_page, Leads, Takes, leads_by, takes_by}
 use Rattle.mdoc_converter.proofs.Outcomes.{is_quiet, never, Lays, quiet-page}

@@ -2,35 +2,34 @@
 use Rattle.std.proofs.Common.{◌≡◌, ℕ, ◌≤◌, ◌+◌, List, [], ◌∷◌, ◌++◌, length, Bool, true, false, not, ◌&&◌, ◌||◌, ◌==◌, nat_lt, if◌then◌else◌, None, Some, refl, sym, ◌∙◌, ap, subst, append_assoc, arith}
 use Rattle.std.specs.Prelude.{codes}
 use Prim.Native.Char.{code}
-use Rattle.mdoc_converter.specs.declared.acts.Act.{Act}
-use Rattle.mdoc_converter.specs.declared.acts.Act.TheVariants as acts
-use Rattle.mdoc_converter.specs.declared.acts.Request.{Request}
-use Rattle.mdoc_converter.specs.declared.acts.Request.TheVariants as requests
-use Rattle.mdoc_converter.specs.declared.acts.Sized.TheVariants as sizes
-use Rattle.mdoc_converter.specs.declared.acts.Stack.TheVariants.{Opens}
-use Rattle.mdoc_converter.specs.declared.escaping.Escape.{Escape as Reached}
-use Rattle.mdoc_converter.specs.declared.escaping.Escape.TheVariants as escapes
-use Rattle.mdoc_converter.specs.declared.macros.Macro.{Macro}
-use Rattle.mdoc_converter.specs.declared.macros.Macro.TheVariants as macros
-use Rattle.mdoc_converter.specs.declared.page.Block.{Block}
-use Rattle.mdoc_converter.specs.declared.page.Kind.{Kind}
-use Rattle.mdoc_converter.specs.declared.page.Kind.TheVariants as kinds
-use Rattle.mdoc_converter.specs.declared.page.Page.{Page}
-use Rattle.mdoc_converter.specs.declared.page.Scan.{Scan}
-use Rattle.mdoc_converter.specs.declared.page.Scan.TheVariants as scans
-use Rattle.mdoc_converter.specs.Blocks.{block_opens, display_begins_of, fresh_block, indent, inner, literal, space, stops, with_literal}
-use Rattle.mdoc_converter.specs.Calls.{is_pending, is_pending_from, is_none, leaves, with_scan}
-use Rattle.mdoc_converter.specs.Columns.{gap}
-use Rattle.mdoc_converter.specs.Escaping.{escape_then}
-use Rattle.mdoc_converter.specs.Keeping.{ends_word, in_named}
-use Rattle.mdoc_converter.specs.Laying.{with_lay}
+use Rattle.mdoc_layout.specs.declared.acts.Act.{Act}
+use Rattle.mdoc_layout.specs.declared.acts.Act.TheVariants as acts
+use Rattle.mdoc_layout.specs.declared.acts.Request.{Request}
+use Rattle.mdoc_layout.specs.declared.acts.Request.TheVariants as requests
+use Rattle.mdoc_layout.specs.declared.acts.Sized.TheVariants as sizes
+use Rattle.mdoc_layout.specs.declared.acts.Stack.TheVariants.{Opens}
+use Rattle.mdoc_layout.specs.declared.page.Escape.{Escape as Reached}
+use Rattle.mdoc_layout.specs.declared.page.Escape.TheVariants as escapes
+use Rattle.mdoc_layout.specs.declared.macros.Macro.{Macro}
+use Rattle.mdoc_layout.specs.declared.macros.Macro.TheVariants as macros
+use Rattle.mdoc_layout.specs.declared.page.Block.{Block}
+use Rattle.mdoc_layout.specs.declared.page.Kind.{Kind}
+use Rattle.mdoc_layout.specs.declared.page.Kind.TheVariants as kinds
+use Rattle.mdoc_layout.specs.declared.page.Page.{Page}
+use Rattle.mdoc_layout.specs.declared.page.Scan.{Scan}
+use Rattle.mdoc_layout.specs.declared.page.Scan.TheVariants as scans
+use Rattle.mdoc_layout.specs.Blocks.{block_opens, display_begins_of, fresh_block, indent, inner, literal, space, stops, with_literal}
+use Rattle.mdoc_words.specs.Calls.{is_pending, is_pending_from, is_none, leaves, with_scan}
+use Rattle.mdoc_layout.specs.Columns.{gap, is_column}
+use Rattle.mdoc_words.specs.Escaping.{escape_then}
+use Rattle.mdoc_words.specs.Keeping.{ends_word, in_named}
+use Rattle.mdoc_layout.specs.Laying.{with_lay}
 use Rattle.mdoc_converter.specs.Lines.{begins, closes_last, end_of, ended_seen, ends, last_act, line_ends, turned}
-use Rattle.mdoc_converter.specs.Macros.{macro_of}
-use Rattle.mdoc_converter.specs.Options.{is_column, none}
+use Rattle.mdoc_words.specs.Macros.{macro_of}
+use Rattle.mdoc_layout.specs.Seeing.{Offered, and_taken, left, none, offered, three, two}
 use Rattle.mdoc_converter.specs.Reading.{State, refused, said, stacked}
 use Rattle.mdoc_converter.specs.Saying.{part_of, parts_of, words_of}
 use Rattle.mdoc_converter.specs.Scanning.{offer, offer_at, offer_whole, offer_whole_at}
-use Rattle.mdoc_converter.specs.Seeing.{Offered, offered, left, three, two, and_taken}
 use Rattle.mdoc_converter.specs.WordLaws.{reads_at}
 use Rattle.mdoc_converter.specs.WrittenLines.{begins_star, each, asks, opens_block, is_plain, Letter, Plain, Escape, bytes_of, is_asking, are_asking, begins_blank, asking_line, written, names_no_string}
 use Rattle.mdoc_converter.proofs.After.{after, after-append, next-state, Fresh}

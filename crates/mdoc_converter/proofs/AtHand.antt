@@ -1,17 +1,17 @@
 -- Bytes that pass at once.
 use Rattle.std.proofs.Common.{◌≡◌, ℕ, suc, ◌+◌, ◌≤◌, List, [], ◌∷◌, length, take, Bool, true, false, not, ◌==◌, nat_lt, if◌then◌else◌, None, refl, sym, ◌∙◌, ap, subst, arith}
 use Prim.Native.Char.{code}
-use Rattle.mdoc_converter.specs.declared.page.Prefix.{Prefix}
-use Rattle.mdoc_converter.specs.declared.page.Prefix.TheVariants as prefixes
-use Rattle.mdoc_converter.specs.declared.page.Scan.{Scan}
-use Rattle.mdoc_converter.specs.declared.page.Scan.TheVariants as scans
+use Rattle.mdoc_layout.specs.declared.page.Prefix.{Prefix}
+use Rattle.mdoc_layout.specs.declared.page.Prefix.TheVariants as prefixes
+use Rattle.mdoc_layout.specs.declared.page.Scan.{Scan}
+use Rattle.mdoc_layout.specs.declared.page.Scan.TheVariants as scans
 use Rattle.mdoc_converter.specs.declared.pending.Pending.{Pending}
 use Rattle.mdoc_converter.specs.declared.pending.Pending.TheVariants.{Nothing}
-use Rattle.mdoc_converter.specs.declared.page.Block.{Block}
+use Rattle.mdoc_layout.specs.declared.page.Block.{Block}
 use Rattle.mdoc_converter.specs.declared.reader.Reader.{Reader}
 use Rattle.mdoc_converter.specs.AtHand.{before_newline, passing, passing_by, passing_in, Passes}
-use Rattle.mdoc_converter.specs.Calls.{with_scan}
-use Rattle.mdoc_converter.specs.LayingOut.{lay_out}
+use Rattle.mdoc_words.specs.Calls.{with_scan}
+use Rattle.mdoc_layout.specs.LayingOut.{lay_out}
 use Rattle.mdoc_converter.specs.Reading.{State, Emitted, state, emitted, preceded, then_emitted, said, once, heard, read, fed}
 use Rattle.mdoc_converter.specs.Scanning.{prefix_then, is_blank, offer, offer_whole, passes_to}
 use Rattle.mdoc_converter.specs.WrittenLines.{each, is_text}

@@ -1,22 +1,22 @@
 -- What a macro says where it begins a line: nothing of its words.
 use Rattle.std.proofs.Common.{◌≡◌, ℕ, ◌+◌, List, [], ◌++◌, Bool, true, false, not, ◌||◌, if◌then◌else◌, refl, sym, ◌∙◌, ap}
-use Rattle.mdoc_converter.specs.declared.acts.Act.TheVariants as acts
-use Rattle.mdoc_converter.specs.declared.acts.Request.TheVariants as requests
-use Rattle.mdoc_converter.specs.declared.acts.Sized.TheVariants as sizes
-use Rattle.mdoc_converter.specs.declared.acts.Text.TheVariants as texts
-use Rattle.mdoc_converter.specs.declared.macros.Font.{Font}
-use Rattle.mdoc_converter.specs.declared.macros.Font.TheVariants.{Roman, Bold}
-use Rattle.mdoc_converter.specs.declared.macros.Macro.{Macro}
-use Rattle.mdoc_converter.specs.declared.macros.Macro.TheVariants as macros
-use Rattle.mdoc_converter.specs.declared.page.Kind.{Kind}
-use Rattle.mdoc_converter.specs.declared.page.Kind.TheVariants as kinds
-use Rattle.mdoc_converter.specs.declared.page.Last.{Last}
-use Rattle.mdoc_converter.specs.declared.page.Last.TheVariants as lasts
-use Rattle.mdoc_converter.specs.declared.page.Page.{Page}
-use Rattle.mdoc_converter.specs.Blocks.{before_item, counted_item, counts, inner, is_bare, is_diagnosis, is_list, item, item_head, item_head_of, line_opens, new_item, plainly, space, stands_close, taking}
-use Rattle.mdoc_converter.specs.Calls.{is_synopsis}
+use Rattle.mdoc_layout.specs.declared.acts.Act.TheVariants as acts
+use Rattle.mdoc_layout.specs.declared.acts.Request.TheVariants as requests
+use Rattle.mdoc_layout.specs.declared.acts.Sized.TheVariants as sizes
+use Rattle.mdoc_layout.specs.declared.acts.Text.TheVariants as texts
+use Rattle.mdoc_layout.specs.declared.macros.Font.{Font}
+use Rattle.mdoc_layout.specs.declared.macros.Font.TheVariants.{Roman, Bold}
+use Rattle.mdoc_layout.specs.declared.macros.Macro.{Macro}
+use Rattle.mdoc_layout.specs.declared.macros.Macro.TheVariants as macros
+use Rattle.mdoc_layout.specs.declared.page.Kind.{Kind}
+use Rattle.mdoc_layout.specs.declared.page.Kind.TheVariants as kinds
+use Rattle.mdoc_layout.specs.declared.page.Last.{Last}
+use Rattle.mdoc_layout.specs.declared.page.Last.TheVariants as lasts
+use Rattle.mdoc_layout.specs.declared.page.Page.{Page}
+use Rattle.mdoc_layout.specs.Blocks.{before_item, counted_item, counts, inner, is_bare, is_diagnosis, is_list, item, item_head, item_head_of, line_opens, new_item, plainly, space, stands_close, taking}
+use Rattle.mdoc_words.specs.Calls.{is_synopsis}
 use Rattle.mdoc_converter.specs.Lines.{after, begins, book, function_line, is_see_also, include_line, line_before, stands_after, synopsis_line}
-use Rattle.mdoc_converter.specs.Options.{none}
+use Rattle.mdoc_layout.specs.Seeing.{none}
 use Rattle.mdoc_converter.specs.WrittenLines.{heads_words, Usual, way_of}
 use Rattle.mdoc_converter.proofs.Outcomes.{is_quiet, of_word, never, Lined, lined_as, takes_plain, Keeps, Out, out, out_if, out_when, out_act_if, same_page}
 use Rattle.mdoc_converter.proofs.Taken.{called_out}

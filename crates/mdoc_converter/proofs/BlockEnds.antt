@@ -1,21 +1,21 @@
 -- The line that ends a list or a display begins as others do, and so does a heading, which ends all.
 use Rattle.std.proofs.Common.{◌≡◌, ℕ, ◌≤◌, List, [], ◌++◌, length, Bool, true, false, not, if◌then◌else◌, refl, ◌∙◌}
-use Rattle.mdoc_converter.specs.declared.acts.Act.{Act}
-use Rattle.mdoc_converter.specs.declared.acts.Act.TheVariants as acts
-use Rattle.mdoc_converter.specs.declared.acts.Request.{Request}
-use Rattle.mdoc_converter.specs.declared.acts.Request.TheVariants as requests
-use Rattle.mdoc_converter.specs.declared.acts.Stack.TheVariants.{Closes, Empties}
-use Rattle.mdoc_converter.specs.declared.page.Kind.{Kind}
-use Rattle.mdoc_converter.specs.declared.page.Kind.TheVariants as kinds
-use Rattle.mdoc_converter.specs.declared.page.Page.{Page}
-use Rattle.mdoc_converter.specs.declared.page.Scan.TheVariants as scans
-use Rattle.mdoc_converter.specs.Blocks.{display_ends_of, is_list, list_ends, literal_ends, with_literal}
-use Rattle.mdoc_converter.specs.Laying.{with_lay}
+use Rattle.mdoc_layout.specs.declared.acts.Act.{Act}
+use Rattle.mdoc_layout.specs.declared.acts.Act.TheVariants as acts
+use Rattle.mdoc_layout.specs.declared.acts.Request.{Request}
+use Rattle.mdoc_layout.specs.declared.acts.Request.TheVariants as requests
+use Rattle.mdoc_layout.specs.declared.acts.Stack.TheVariants.{Closes, Empties}
+use Rattle.mdoc_layout.specs.declared.page.Kind.{Kind}
+use Rattle.mdoc_layout.specs.declared.page.Kind.TheVariants as kinds
+use Rattle.mdoc_layout.specs.declared.page.Page.{Page}
+use Rattle.mdoc_layout.specs.declared.page.Scan.TheVariants as scans
+use Rattle.mdoc_layout.specs.Blocks.{display_ends_of, is_list, list_ends, literal_ends, with_literal}
+use Rattle.mdoc_layout.specs.Laying.{with_lay}
 use Rattle.mdoc_converter.specs.Lines.{heads, is_page, subsection}
-use Rattle.mdoc_converter.specs.Options.{is_column, none}
+use Rattle.mdoc_layout.specs.Columns.{is_column}
+use Rattle.mdoc_layout.specs.Seeing.{Offered, left, none, offered, three, two, with_stack}
 use Rattle.mdoc_converter.specs.Reading.{State, stacked}
 use Rattle.mdoc_converter.specs.Scanning.{offer}
-use Rattle.mdoc_converter.specs.Seeing.{Offered, offered, left, three, two, with_stack}
 use Rattle.mdoc_converter.specs.WrittenLines.{way_of}
 use Rattle.mdoc_converter.proofs.Begins.{none_out}
 use Rattle.mdoc_converter.proofs.Offering.{with_page, leads_with}

@@ -4,18 +4,18 @@ use Rattle.std.proofs.lemmas.Bool.Decides.{nat_tests}
 use Rattle.std.proofs.lemmas.List.{length-reverse, reverse-append, reverse-reverse}
 use Rattle.std.proofs.Math.Seq.{get_or-append_seam, take-append_seam}
 use Rattle.std.specs.Prelude.{reverse, slice_index}
-use Rattle.mdoc_converter.specs.declared.acts.Act.TheVariants as acts
-use Rattle.mdoc_converter.specs.declared.acts.Text.TheVariants as texts
-use Rattle.mdoc_converter.specs.declared.page.Page.{Page}
-use Rattle.mdoc_converter.specs.declared.page.Scan.{Scan}
-use Rattle.mdoc_converter.specs.declared.page.Scan.TheVariants as scans
-use Rattle.mdoc_converter.specs.Calls.{is_pending, is_none, leaves}
-use Rattle.mdoc_converter.specs.Laying.{Laid, laid, then_laid}
-use Rattle.mdoc_converter.specs.LayingOut.{lay_out}
+use Rattle.mdoc_layout.specs.declared.acts.Act.TheVariants as acts
+use Rattle.mdoc_layout.specs.declared.acts.Text.TheVariants as texts
+use Rattle.mdoc_layout.specs.declared.page.Page.{Page}
+use Rattle.mdoc_layout.specs.declared.page.Scan.{Scan}
+use Rattle.mdoc_layout.specs.declared.page.Scan.TheVariants as scans
+use Rattle.mdoc_words.specs.Calls.{is_pending, is_none, leaves}
+use Rattle.mdoc_layout.specs.Laying.{Laid, laid, then_laid}
+use Rattle.mdoc_layout.specs.LayingOut.{lay_out}
 use Rattle.mdoc_converter.specs.Lines.{closes_last, ends_joined, line_ends}
 use Rattle.mdoc_converter.specs.Reading.{State, Emitted, preceded, said, once, once_seen, heard_in}
 use Rattle.mdoc_converter.specs.Scanning.{offer, offer_at, offer_whole, offer_whole_at}
-use Rattle.mdoc_converter.specs.Seeing.{Offered, offered, left, two}
+use Rattle.mdoc_layout.specs.Seeing.{Offered, offered, left, two}
 use Rattle.mdoc_converter.specs.WordLaws.{close, close_all, with_closers, LastIsClosedFirst}
 use Rattle.mdoc_converter.proofs.Hearing.{heard_left}
 use Rattle.mdoc_converter.proofs.Reading.{emitted-eq, preceded-none}

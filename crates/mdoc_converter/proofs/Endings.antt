@@ -3,29 +3,28 @@ use Rattle.std.proofs.Common.{◌≡◌, ℕ, zero, suc, ◌≤◌, ◌+◌, ◌
 use Rattle.std.proofs.lemmas.Bool.Decides.{nat_tests}
 use Rattle.std.proofs.lemmas.List.{length-take}
 use Rattle.std.specs.Prelude.{slice_index}
-use Rattle.mdoc_converter.specs.declared.acts.Act.{Act}
-use Rattle.mdoc_converter.specs.declared.acts.Act.TheVariants as acts
-use Rattle.mdoc_converter.specs.declared.acts.Request.TheVariants as requests
-use Rattle.mdoc_converter.specs.declared.acts.Sized.TheVariants as sizes
-use Rattle.mdoc_converter.specs.declared.acts.Text.TheVariants as texts
-use Rattle.mdoc_converter.specs.declared.macros.Macro.{Macro}
-use Rattle.mdoc_converter.specs.declared.macros.Macro.TheVariants as macros
-use Rattle.mdoc_converter.specs.declared.page.Block.{Block}
-use Rattle.mdoc_converter.specs.declared.page.Kind.{Kind}
-use Rattle.mdoc_converter.specs.declared.page.Kind.TheVariants as kinds
-use Rattle.mdoc_converter.specs.declared.page.Page.{Page}
-use Rattle.mdoc_converter.specs.declared.page.Scan.{Scan}
-use Rattle.mdoc_converter.specs.declared.page.Scan.TheVariants as scans
-use Rattle.mdoc_converter.specs.Blocks.{is_tagged, item_ends_of, tag_ends, tag_ends_of, tag_width}
-use Rattle.mdoc_converter.specs.Calls.{is_pending, is_none, leaves, with_scan}
-use Rattle.mdoc_converter.specs.Laying.{is_middle, with_lay}
-use Rattle.mdoc_converter.specs.LayingOut.{lay_out}
+use Rattle.mdoc_layout.specs.declared.acts.Act.{Act}
+use Rattle.mdoc_layout.specs.declared.acts.Act.TheVariants as acts
+use Rattle.mdoc_layout.specs.declared.acts.Request.TheVariants as requests
+use Rattle.mdoc_layout.specs.declared.acts.Sized.TheVariants as sizes
+use Rattle.mdoc_layout.specs.declared.acts.Text.TheVariants as texts
+use Rattle.mdoc_layout.specs.declared.macros.Macro.{Macro}
+use Rattle.mdoc_layout.specs.declared.macros.Macro.TheVariants as macros
+use Rattle.mdoc_layout.specs.declared.page.Block.{Block}
+use Rattle.mdoc_layout.specs.declared.page.Kind.{Kind}
+use Rattle.mdoc_layout.specs.declared.page.Kind.TheVariants as kinds
+use Rattle.mdoc_layout.specs.declared.page.Page.{Page}
+use Rattle.mdoc_layout.specs.declared.page.Scan.{Scan}
+use Rattle.mdoc_layout.specs.declared.page.Scan.TheVariants as scans
+use Rattle.mdoc_layout.specs.Blocks.{is_tagged, item_ends_of, tag_ends, tag_ends_of, tag_width}
+use Rattle.mdoc_words.specs.Calls.{is_pending, is_none, leaves, with_scan}
+use Rattle.mdoc_layout.specs.Laying.{is_middle, with_lay}
+use Rattle.mdoc_layout.specs.LayingOut.{lay_out}
 use Rattle.mdoc_converter.specs.Lines.{closes_last, end_of, ended_seen, ends, ends_joined, last_act, line_ends}
-use Rattle.mdoc_converter.specs.Options.{none}
+use Rattle.mdoc_layout.specs.Seeing.{Offered, and_taken, left, none, offered, three, two}
 use Rattle.mdoc_converter.specs.Reading.{State, said}
 use Rattle.mdoc_converter.specs.Saying.{part_of}
 use Rattle.mdoc_converter.specs.Scanning.{offer, offer_at, offer_whole, offer_whole_at}
-use Rattle.mdoc_converter.specs.Seeing.{Offered, offered, left, three, two, and_taken}
 use Rattle.mdoc_converter.specs.WrittenLines.{heads_words}
 use Rattle.mdoc_converter.proofs.After.{Fresh}
 use Rattle.mdoc_converter.proofs.Offering.{with_page, Leads, Takes, then_takes, takes_by}

@@ -3,9 +3,9 @@ use Rattle.std.proofs.Common.{◌≡◌, ℕ, zero, suc, ◌==◌, List, [], ◌
 use Rattle.std.proofs.lemmas.Bool.Decides.{nat_tests}
 use Rattle.std.specs.Prelude.{codes}
 use Prim.Native.Char.{code}
-use Rattle.mdoc_converter.specs.declared.acts.Stack.{Stack}
-use Rattle.mdoc_converter.specs.declared.acts.Stack.TheVariants.{Stay, Opens, Closes, Empties}
-use Rattle.mdoc_converter.specs.declared.page.Block.{Block}
+use Rattle.mdoc_layout.specs.declared.acts.Stack.{Stack}
+use Rattle.mdoc_layout.specs.declared.acts.Stack.TheVariants.{Stay, Opens, Closes, Empties}
+use Rattle.mdoc_layout.specs.declared.page.Block.{Block}
 use Rattle.mdoc_converter.specs.declared.strings.Next.TheVariants.{Waits, Breaks}
 use Rattle.mdoc_converter.specs.declared.pending.Pending.{Pending}
 use Rattle.mdoc_converter.specs.declared.pending.Pending.TheVariants.{Nothing, Backslash, Star}

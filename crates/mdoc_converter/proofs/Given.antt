@@ -1,13 +1,13 @@
 -- A word is given: in so many steps all of it was said, or is held back.
 use Rattle.std.proofs.Common.{◌≡◌, ℕ, ◌≤◌, ◌+◌, List, ◌++◌, Bool, true, false, not, ◌&&◌, if◌then◌else◌, ◌∙◌, ap, append_assoc, arith}
-use Rattle.mdoc_converter.specs.declared.macros.Macro.{Macro}
-use Rattle.mdoc_converter.specs.declared.page.Scan.{Scan}
-use Rattle.mdoc_converter.specs.declared.page.Scan.TheVariants as scans
-use Rattle.mdoc_converter.specs.Options.{option, reads_for}
+use Rattle.mdoc_layout.specs.declared.macros.Macro.{Macro}
+use Rattle.mdoc_layout.specs.declared.page.Scan.{Scan}
+use Rattle.mdoc_layout.specs.declared.page.Scan.TheVariants as scans
+use Rattle.mdoc_words.specs.Options.{option, reads_for}
 use Rattle.mdoc_converter.specs.Reading.{State}
 use Rattle.mdoc_converter.specs.Scanning.{offer, offer_at, offer_whole, offer_whole_at}
 use Rattle.mdoc_converter.specs.WrittenLines.{prints_otherwise}
-use Rattle.mdoc_converter.specs.Words.{ends_long, heading_calls, parsed}
+use Rattle.mdoc_words.specs.Words.{ends_long, heading_calls, parsed}
 use Rattle.mdoc_converter.proofs.Escapes.{and_right, is_not}
 use Rattle.mdoc_converter.proofs.Offering.{Leads, then_leads}
 use Rattle.mdoc_converter.proofs.Outcomes.{takes_plain}

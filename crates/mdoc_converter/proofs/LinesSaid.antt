@@ -2,15 +2,15 @@
 use Rattle.std.proofs.Common.{◌≡◌, ℕ, Bool, length, List, [], ◌∷◌, ◌++◌, true, false, not, ◌&&◌, ◌||◌, ◌==◌, nat_lt, Option, None, Some, refl, sym, ◌∙◌, ap, subst, append_assoc, append-nil}
 use Rattle.std.specs.Prelude.{codes}
 use Prim.Native.Char.{code}
-use Rattle.mdoc_converter.specs.declared.macros.Macro.{Macro}
-use Rattle.mdoc_converter.specs.declared.page.Page.{Page}
-use Rattle.mdoc_converter.specs.declared.page.Scan.TheVariants as scans
+use Rattle.mdoc_layout.specs.declared.macros.Macro.{Macro}
+use Rattle.mdoc_layout.specs.declared.page.Page.{Page}
+use Rattle.mdoc_layout.specs.declared.page.Scan.TheVariants as scans
 use Rattle.mdoc_converter.specs.declared.pending.Pending.{Pending}
 use Rattle.mdoc_converter.specs.declared.pending.Pending.TheVariants.{Nothing}
-use Rattle.mdoc_converter.specs.Calls.{is_item, with_scan}
-use Rattle.mdoc_converter.specs.Blocks.{is_diagnosis}
+use Rattle.mdoc_words.specs.Calls.{is_item, with_scan}
+use Rattle.mdoc_layout.specs.Blocks.{is_diagnosis}
 use Rattle.mdoc_converter.specs.Lines.{calls_none}
-use Rattle.mdoc_converter.specs.Macros.{macro_of}
+use Rattle.mdoc_words.specs.Macros.{macro_of}
 use Rattle.mdoc_converter.specs.Reading.{State, fed}
 use Rattle.mdoc_converter.specs.Saying.{parts_of, text_of, words_of}
 use Rattle.mdoc_converter.specs.WordLaws.{begins_block, has_room, opens_some, printed_lines, reads_at, LinesAreSaid}

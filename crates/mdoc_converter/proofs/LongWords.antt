@@ -3,24 +3,24 @@ use Rattle.std.proofs.Common.{◌≡◌, ℕ, ◌≤◌, ◌+◌, List, [], ◌+
 use Rattle.std.proofs.lemmas.Slice.Eq.{bytes_eq-Decides}
 use Rattle.std.specs.Prelude.{codes}
 use Rattle.std.specs.Str.{bytes_eq}
-use Rattle.mdoc_converter.specs.declared.acts.Act.TheVariants as acts
-use Rattle.mdoc_converter.specs.declared.macros.Font.TheVariants.{Roman}
-use Rattle.mdoc_converter.specs.declared.macros.Macro.{Macro}
-use Rattle.mdoc_converter.specs.declared.macros.Macro.TheVariants as macros
-use Rattle.mdoc_converter.specs.declared.page.Inside.{Inside}
-use Rattle.mdoc_converter.specs.declared.page.Page.{Page}
-use Rattle.mdoc_converter.specs.declared.page.Scan.{Scan}
-use Rattle.mdoc_converter.specs.declared.page.Scan.TheVariants as scans
-use Rattle.mdoc_converter.specs.Calls.{is_enclosure_pending, is_none, is_opened_by, leaves, seen_with, with_scan}
-use Rattle.mdoc_converter.specs.Keeping.{is_whole, whole_for}
-use Rattle.mdoc_converter.specs.Laying.{was_put, with_lay, without_marks}
-use Rattle.mdoc_converter.specs.LayingOut.{lay_out}
+use Rattle.mdoc_layout.specs.declared.acts.Act.TheVariants as acts
+use Rattle.mdoc_layout.specs.declared.macros.Font.TheVariants.{Roman}
+use Rattle.mdoc_layout.specs.declared.macros.Macro.{Macro}
+use Rattle.mdoc_layout.specs.declared.macros.Macro.TheVariants as macros
+use Rattle.mdoc_layout.specs.declared.page.Inside.{Inside}
+use Rattle.mdoc_layout.specs.declared.page.Page.{Page}
+use Rattle.mdoc_layout.specs.declared.page.Scan.{Scan}
+use Rattle.mdoc_layout.specs.declared.page.Scan.TheVariants as scans
+use Rattle.mdoc_words.specs.Calls.{is_enclosure_pending, is_none, is_opened_by, leaves, seen_with, with_scan}
+use Rattle.mdoc_words.specs.Keeping.{is_whole, whole_for}
+use Rattle.mdoc_layout.specs.Laying.{was_put, with_lay, without_marks}
+use Rattle.mdoc_layout.specs.LayingOut.{lay_out}
 use Rattle.mdoc_converter.specs.Reading.{State, said}
 use Rattle.mdoc_converter.specs.Scanning.{offer, offer_at, offer_whole, offer_whole_at}
-use Rattle.mdoc_converter.specs.Seeing.{Offered, offered, left}
-use Rattle.mdoc_converter.specs.Options.{is_heading}
-use Rattle.mdoc_converter.specs.Taking.{argument, some_taken, taken_alone_by, taken_by, taken_word}
-use Rattle.mdoc_converter.specs.Words.{prefixed, goes_on, goes_to, long_begins}
+use Rattle.mdoc_layout.specs.Seeing.{Offered, offered, left}
+use Rattle.mdoc_words.specs.Options.{is_heading}
+use Rattle.mdoc_words.specs.Taking.{argument, some_taken, taken_alone_by, taken_by, taken_word}
+use Rattle.mdoc_words.specs.Words.{prefixed, goes_on, goes_to, long_begins}
 use Rattle.mdoc_converter.specs.WrittenLines.{Way, Usual, Titled, Authors, Headed, said_of, way_of}
 use Rattle.mdoc_converter.proofs.Escapes.{and_left}
 use Rattle.mdoc_converter.proofs.Offering.{with_page, Leads, then_leads, leads_by}

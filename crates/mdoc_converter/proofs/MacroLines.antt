@@ -4,25 +4,25 @@ use Rattle.std.proofs.lemmas.Bool.Decides.{nat_tests}
 use Rattle.std.specs.Prelude.{codes}
 use Prim.Native.Char.{code}
 use Rattle.nr_units.specs.Name.{capacity, is_full}
-use Rattle.mdoc_converter.specs.declared.acts.Act.TheVariants as acts
-use Rattle.mdoc_converter.specs.declared.escaping.Escape.{Escape as Reached}
-use Rattle.mdoc_converter.specs.declared.macros.Macro.{Macro}
-use Rattle.mdoc_converter.specs.declared.macros.Macro.TheVariants as macros
-use Rattle.mdoc_converter.specs.declared.page.Block.{Block}
-use Rattle.mdoc_converter.specs.declared.page.Page.{Page}
-use Rattle.mdoc_converter.specs.declared.page.Scan.{Scan}
-use Rattle.mdoc_converter.specs.declared.page.Scan.TheVariants as scans
+use Rattle.mdoc_layout.specs.declared.acts.Act.TheVariants as acts
+use Rattle.mdoc_layout.specs.declared.page.Escape.{Escape as Reached}
+use Rattle.mdoc_layout.specs.declared.macros.Macro.{Macro}
+use Rattle.mdoc_layout.specs.declared.macros.Macro.TheVariants as macros
+use Rattle.mdoc_layout.specs.declared.page.Block.{Block}
+use Rattle.mdoc_layout.specs.declared.page.Page.{Page}
+use Rattle.mdoc_layout.specs.declared.page.Scan.{Scan}
+use Rattle.mdoc_layout.specs.declared.page.Scan.TheVariants as scans
 use Rattle.mdoc_converter.specs.declared.pending.Pending.TheVariants.{Nothing}
-use Rattle.mdoc_converter.specs.Calls.{called_by, is_item, with_scan}
-use Rattle.mdoc_converter.specs.Keeping.{ends_word, in_named, keep_byte}
-use Rattle.mdoc_converter.specs.LayingOut.{lay_out}
-use Rattle.mdoc_converter.specs.Blocks.{is_diagnosis, item}
+use Rattle.mdoc_words.specs.Calls.{called_by, is_item, with_scan}
+use Rattle.mdoc_words.specs.Keeping.{ends_word, in_named, keep_byte}
+use Rattle.mdoc_layout.specs.LayingOut.{lay_out}
+use Rattle.mdoc_layout.specs.Blocks.{is_diagnosis, item}
 use Rattle.mdoc_converter.specs.Lines.{begins, begins_or_other, call_of, calls_none, named_line}
-use Rattle.mdoc_converter.specs.Macros.{macro_of}
+use Rattle.mdoc_words.specs.Macros.{macro_of}
 use Rattle.mdoc_converter.specs.Reading.{State, said}
 use Rattle.mdoc_converter.specs.Saying.{parts_of, words_of}
 use Rattle.mdoc_converter.specs.Scanning.{offer, offer_at, name_begins}
-use Rattle.mdoc_converter.specs.Seeing.{Offered, offered, left, taken}
+use Rattle.mdoc_layout.specs.Seeing.{Offered, offered, left, taken}
 use Rattle.mdoc_converter.specs.WordLaws.{reads_at}
 use Rattle.mdoc_converter.specs.WrittenLines.{Way, way_of, begins_star, each, names_no_string, Letter, Plain, Escape, are_letters, bytes_of, is_escaped, is_letter, is_plain, written, heads_words, is_mute, kept, prints_words, none_or, is_word, unless_called}
 use Rattle.mdoc_converter.proofs.After.{after, next-state}

@@ -1,21 +1,21 @@
 -- A word that is a closing mark is held back, or said where it comes first.
 use Rattle.std.proofs.Common.{◌≡◌, ℕ, ◌≤◌, List, [], ◌∷◌, ◌++◌, length, Bool, true, false, not, ◌&&◌, ◌==◌, if◌then◌else◌, Option, None, Some, refl, sym, ◌∙◌, ap, append-nil, arith}
-use Rattle.mdoc_converter.specs.declared.acts.Act.TheVariants as acts
-use Rattle.mdoc_converter.specs.declared.macros.Font.TheVariants.{Roman}
-use Rattle.mdoc_converter.specs.declared.macros.Macro.{Macro}
-use Rattle.mdoc_converter.specs.declared.macros.Macro.TheVariants as macros
-use Rattle.mdoc_converter.specs.declared.page.Page.{Page}
-use Rattle.mdoc_converter.specs.declared.page.Scan.{Scan}
-use Rattle.mdoc_converter.specs.declared.page.Scan.TheVariants as scans
-use Rattle.mdoc_converter.specs.Calls.{is_pending, is_pending_from, is_enclosure_pending, is_opened_by, leaves, with_call, with_scan}
-use Rattle.mdoc_converter.specs.Laying.{with_lay}
-use Rattle.mdoc_converter.specs.LayingOut.{lay_out}
+use Rattle.mdoc_layout.specs.declared.acts.Act.TheVariants as acts
+use Rattle.mdoc_layout.specs.declared.macros.Font.TheVariants.{Roman}
+use Rattle.mdoc_layout.specs.declared.macros.Macro.{Macro}
+use Rattle.mdoc_layout.specs.declared.macros.Macro.TheVariants as macros
+use Rattle.mdoc_layout.specs.declared.page.Page.{Page}
+use Rattle.mdoc_layout.specs.declared.page.Scan.{Scan}
+use Rattle.mdoc_layout.specs.declared.page.Scan.TheVariants as scans
+use Rattle.mdoc_words.specs.Calls.{is_pending, is_pending_from, is_enclosure_pending, is_opened_by, leaves, with_call, with_scan}
+use Rattle.mdoc_layout.specs.Laying.{with_lay}
+use Rattle.mdoc_layout.specs.LayingOut.{lay_out}
 use Rattle.mdoc_converter.specs.Reading.{State, said}
 use Rattle.mdoc_converter.specs.Scanning.{offer}
-use Rattle.mdoc_converter.specs.Seeing.{Offered, offered, left}
-use Rattle.mdoc_converter.specs.Taking.{prefix}
+use Rattle.mdoc_layout.specs.Seeing.{Offered, offered, left}
+use Rattle.mdoc_words.specs.Taking.{prefix}
 use Rattle.mdoc_converter.specs.WrittenLines.{Usual, way_of}
-use Rattle.mdoc_converter.specs.Words.{begins_anew, closing_mark, holding, is_closing, is_prefix, is_text, mark, mark_as_word, marked_or, most_marks, parsed, stands, taken_after_mark, takes_marks, taken_by_same}
+use Rattle.mdoc_words.specs.Words.{begins_anew, closing_mark, holding, is_closing, is_prefix, is_text, mark, mark_as_word, marked_or, most_marks, parsed, stands, taken_after_mark, takes_marks, taken_by_same}
 use Rattle.mdoc_converter.proofs.Escapes.{and_left, is_not}
 use Rattle.mdoc_converter.proofs.Given.{Whole, whole_of, whole_after, whole_within, given_offered}
 use Rattle.mdoc_converter.proofs.Offering.{with_page, leads_by}

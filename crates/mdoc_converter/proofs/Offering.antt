@@ -1,14 +1,14 @@
 -- How often a byte is offered until it is taken, and what is said then.
 use Rattle.std.proofs.Common.{◌≡◌, ℕ, suc, ◌+◌, ◌-◌, ◌≤◌, List, [], ◌++◌, if◌then◌else◌, refl, sym, ◌∙◌, ap, append_assoc, append-nil, arith}
-use Rattle.mdoc_converter.specs.declared.acts.Act.{Act}
-use Rattle.mdoc_converter.specs.declared.acts.Stack.{Stack}
-use Rattle.mdoc_converter.specs.declared.page.Page.{Page}
-use Rattle.mdoc_converter.specs.declared.page.Scan.{Scan}
-use Rattle.mdoc_converter.specs.Calls.{with_scan}
+use Rattle.mdoc_layout.specs.declared.acts.Act.{Act}
+use Rattle.mdoc_layout.specs.declared.acts.Stack.{Stack}
+use Rattle.mdoc_layout.specs.declared.page.Page.{Page}
+use Rattle.mdoc_layout.specs.declared.page.Scan.{Scan}
+use Rattle.mdoc_words.specs.Calls.{with_scan}
 use Rattle.mdoc_converter.specs.Reading.{State, Emitted, emitted, preceded, said, once, once_seen, stacked, heard_in, heard}
 use Rattle.mdoc_converter.specs.Saying.{parts_seen, parts_in, parts_at, words_of}
 use Rattle.mdoc_converter.specs.Scanning.{offer}
-use Rattle.mdoc_converter.specs.Seeing.{Offered, offered, three, and_taken, with_stack}
+use Rattle.mdoc_layout.specs.Seeing.{Offered, offered, three, and_taken, with_stack}
 use Rattle.mdoc_converter.proofs.Saying.{words_of-append}
 
 abbrev pub with_page : Page → State → State

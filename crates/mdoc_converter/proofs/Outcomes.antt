@@ -1,28 +1,28 @@
 -- What a step says of a word, and what it leaves of the page as it was.
 use Rattle.std.proofs.Common.{◌≡◌, ℕ, ◌≤◌, List, [], ◌++◌, length, Bool, true, false, not, ◌&&◌, if◌then◌else◌, refl, sym, ◌∙◌, ap}
 use Prim.Native.Char.{code}
-use Rattle.mdoc_converter.specs.declared.acts.Act.{Act}
-use Rattle.mdoc_converter.specs.declared.acts.Act.TheVariants as acts
-use Rattle.mdoc_converter.specs.declared.acts.Request.TheVariants as requests
-use Rattle.mdoc_converter.specs.declared.acts.Sized.{Sized}
-use Rattle.mdoc_converter.specs.declared.acts.Sized.TheVariants as sizes
-use Rattle.mdoc_converter.specs.declared.acts.Text.TheVariants as texts
-use Rattle.mdoc_converter.specs.declared.macros.Font.{Font}
-use Rattle.mdoc_converter.specs.declared.macros.Font.TheVariants.{Roman, Bold}
-use Rattle.mdoc_converter.specs.declared.macros.Macro.{Macro}
-use Rattle.mdoc_converter.specs.declared.macros.Macro.TheVariants as macros
-use Rattle.mdoc_converter.specs.declared.page.Call.{Call}
-use Rattle.mdoc_converter.specs.declared.page.Lay.{Lay}
-use Rattle.mdoc_converter.specs.declared.page.Page.{Page}
-use Rattle.mdoc_converter.specs.declared.seen.Seen.{Seen}
-use Rattle.mdoc_converter.specs.Calls.{is_synopsis, heads_line, after_name, takes_no_more, pending_from, pending, leaves, function_closes}
-use Rattle.mdoc_converter.specs.Laying.{laid, with_lay}
-use Rattle.mdoc_converter.specs.LayingOut.{lay_out}
-use Rattle.mdoc_converter.specs.Options.{is_heading, reads_for}
-use Rattle.mdoc_converter.specs.OwnLines.{fresh, was_sized}
+use Rattle.mdoc_layout.specs.declared.acts.Act.{Act}
+use Rattle.mdoc_layout.specs.declared.acts.Act.TheVariants as acts
+use Rattle.mdoc_layout.specs.declared.acts.Request.TheVariants as requests
+use Rattle.mdoc_layout.specs.declared.acts.Sized.{Sized}
+use Rattle.mdoc_layout.specs.declared.acts.Sized.TheVariants as sizes
+use Rattle.mdoc_layout.specs.declared.acts.Text.TheVariants as texts
+use Rattle.mdoc_layout.specs.declared.macros.Font.{Font}
+use Rattle.mdoc_layout.specs.declared.macros.Font.TheVariants.{Roman, Bold}
+use Rattle.mdoc_layout.specs.declared.macros.Macro.{Macro}
+use Rattle.mdoc_layout.specs.declared.macros.Macro.TheVariants as macros
+use Rattle.mdoc_layout.specs.declared.page.Call.{Call}
+use Rattle.mdoc_layout.specs.declared.page.Lay.{Lay}
+use Rattle.mdoc_layout.specs.declared.page.Page.{Page}
+use Rattle.mdoc_layout.specs.declared.seen.Seen.{Seen}
+use Rattle.mdoc_words.specs.Calls.{is_synopsis, heads_line, after_name, takes_no_more, pending_from, pending, leaves, function_closes}
+use Rattle.mdoc_layout.specs.Laying.{laid, with_lay}
+use Rattle.mdoc_layout.specs.LayingOut.{lay_out}
+use Rattle.mdoc_words.specs.Options.{is_heading, reads_for}
+use Rattle.mdoc_layout.specs.OwnLines.{fresh, was_sized}
 use Rattle.mdoc_converter.specs.Reading.{said}
 use Rattle.mdoc_converter.specs.Saying.{part_of, parts_seen, words_of}
-use Rattle.mdoc_converter.specs.Seeing.{Offered, offered, three}
+use Rattle.mdoc_layout.specs.Seeing.{Offered, offered, three}
 use Rattle.mdoc_converter.specs.WrittenLines.{prints_otherwise, Usual, way_of}
 
 -- ---- acts that leave all of the page but how text is laid out

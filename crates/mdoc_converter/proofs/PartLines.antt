@@ -2,20 +2,19 @@
 use Rattle.std.proofs.Common.{◌≡◌, ℕ, ◌≤◌, ◌+◌, List, [], ◌∷◌, ◌++◌, length, Bool, true, false, not, ◌==◌, nat_lt, if◌then◌else◌, refl, sym, ◌∙◌, ap, subst}
 use Rattle.std.specs.Prelude.{codes}
 use Prim.Native.Char.{code}
-use Rattle.mdoc_converter.specs.declared.acts.Act.TheVariants as acts
-use Rattle.mdoc_converter.specs.declared.page.Call.{Call}
-use Rattle.mdoc_converter.specs.declared.page.Page.{Page}
-use Rattle.mdoc_converter.specs.declared.page.Scan.TheVariants as scans
-use Rattle.mdoc_converter.specs.Calls.{with_place}
-use Rattle.mdoc_converter.specs.Laying.{Laid, laid, put, is_joined, was_put}
-use Rattle.mdoc_converter.specs.LayingOut.{lay_out}
+use Rattle.mdoc_layout.specs.declared.acts.Act.TheVariants as acts
+use Rattle.mdoc_layout.specs.declared.page.Call.{Call}
+use Rattle.mdoc_layout.specs.declared.page.Page.{Page}
+use Rattle.mdoc_layout.specs.declared.page.Scan.TheVariants as scans
+use Rattle.mdoc_words.specs.Calls.{with_place}
+use Rattle.mdoc_layout.specs.Laying.{Laid, laid, put, is_joined, was_put}
+use Rattle.mdoc_layout.specs.LayingOut.{lay_out}
 use Rattle.mdoc_converter.specs.Lines.{book_ends, part_begins}
-use Rattle.mdoc_converter.specs.Options.{none}
-use Rattle.mdoc_converter.specs.OwnLines.{put_head}
+use Rattle.mdoc_layout.specs.Seeing.{left, none, offered, two}
+use Rattle.mdoc_layout.specs.OwnLines.{put_head}
 use Rattle.mdoc_converter.specs.Reading.{State, said}
-use Rattle.mdoc_converter.specs.References.{author_head, authors_of, has_part, more_authors, most_parts, order, put_author_head, put_authors, put_comma, put_part, put_part_begin, put_part_head, put_parts, put_stop, put_title_part, with_listed, with_part}
+use Rattle.mdoc_layout.specs.References.{author_head, authors_of, has_part, more_authors, most_parts, order, put_author_head, put_authors, put_comma, put_part, put_part_begin, put_part_head, put_parts, put_stop, put_title_part, with_listed, with_part}
 use Rattle.mdoc_converter.specs.Scanning.{offer}
-use Rattle.mdoc_converter.specs.Seeing.{offered, left, two}
 use Rattle.mdoc_converter.specs.WrittenLines.{way_of}
 use Rattle.mdoc_converter.proofs.BlockEnds.{Begun, none_step}
 use Rattle.mdoc_converter.proofs.Offering.{with_page, leads_by}

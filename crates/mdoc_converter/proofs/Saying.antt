@@ -1,15 +1,15 @@
 -- What goes out is what is said.
 use Rattle.std.proofs.Common.{◌≡◌, ℕ, zero, suc, List, [], ◌∷◌, ◌++◌, Bool, true, false, if◌then◌else◌, refl, sym, ◌∙◌, ap, append_assoc, append-nil}
-use Rattle.mdoc_converter.specs.declared.acts.Act.{Act}
-use Rattle.mdoc_converter.specs.declared.acts.Act.TheVariants as acts
-use Rattle.mdoc_converter.specs.declared.page.Page.{Page}
-use Rattle.mdoc_converter.specs.declared.seen.Seen.{Seen}
-use Rattle.mdoc_converter.specs.Laying.{before_hyphen, first_of, gap, word_end}
-use Rattle.mdoc_converter.specs.LayingOut.{lay_out}
+use Rattle.mdoc_layout.specs.declared.acts.Act.{Act}
+use Rattle.mdoc_layout.specs.declared.acts.Act.TheVariants as acts
+use Rattle.mdoc_layout.specs.declared.page.Page.{Page}
+use Rattle.mdoc_layout.specs.declared.seen.Seen.{Seen}
+use Rattle.mdoc_layout.specs.Laying.{before_hyphen, first_of, gap, word_end}
+use Rattle.mdoc_layout.specs.LayingOut.{lay_out}
 use Rattle.mdoc_converter.specs.Reading.{State, Emitted, emitted, said, once, heard_in, heard}
 use Rattle.mdoc_converter.specs.Scanning.{offer}
 use Rattle.mdoc_converter.specs.Saying.{Part, part_of, parts_seen, parts_in, parts_at, text_of, words_of}
-use Rattle.mdoc_converter.specs.Texts.{font_end}
+use Rattle.mdoc_layout.specs.Texts.{font_end}
 
 -- ---- parts in a row
 

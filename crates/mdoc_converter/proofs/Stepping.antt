@@ -1,15 +1,15 @@
 -- One step where a line of a macro is read: what is said, and how it is read further.
 use Rattle.std.proofs.Common.{◌≡◌, ℕ, ◌≤◌, List, [], ◌++◌, length, Bool, true, false, refl, sym, ◌∙◌, ap, subst, append-nil}
-use Rattle.mdoc_converter.specs.declared.acts.Act.TheVariants as acts
-use Rattle.mdoc_converter.specs.declared.page.Lay.{Lay}
-use Rattle.mdoc_converter.specs.declared.page.Page.{Page}
-use Rattle.mdoc_converter.specs.declared.page.Scan.{Scan}
-use Rattle.mdoc_converter.specs.Calls.{pending, is_pending, is_enclosure_pending, leaves, takes_no_more}
-use Rattle.mdoc_converter.specs.Laying.{with_lay, was_put, without_marks}
-use Rattle.mdoc_converter.specs.LayingOut.{lay_out}
+use Rattle.mdoc_layout.specs.declared.acts.Act.TheVariants as acts
+use Rattle.mdoc_layout.specs.declared.page.Lay.{Lay}
+use Rattle.mdoc_layout.specs.declared.page.Page.{Page}
+use Rattle.mdoc_layout.specs.declared.page.Scan.{Scan}
+use Rattle.mdoc_words.specs.Calls.{pending, is_pending, is_enclosure_pending, leaves, takes_no_more}
+use Rattle.mdoc_layout.specs.Laying.{with_lay, was_put, without_marks}
+use Rattle.mdoc_layout.specs.LayingOut.{lay_out}
 use Rattle.mdoc_converter.specs.Reading.{State, said}
 use Rattle.mdoc_converter.specs.Scanning.{offer}
-use Rattle.mdoc_converter.specs.Seeing.{Offered, offered, left, three}
+use Rattle.mdoc_layout.specs.Seeing.{Offered, offered, left, three}
 use Rattle.mdoc_converter.specs.WrittenLines.{Way, Usual, way_of}
 use Rattle.mdoc_converter.proofs.Offering.{with_page, Leads, leads_by}
 use Rattle.mdoc_converter.proofs.Outcomes.{of_word, never, Lined, line_in, Lays, three-page, three-words, takes_as, Out, leaves_out}

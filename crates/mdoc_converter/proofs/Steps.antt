@@ -1,9 +1,9 @@
 -- In how many steps bytes are read.
 use Rattle.std.proofs.Common.{ℕ, zero, suc, ◌+◌, ◌*◌, ◌≤◌, ◌==◌, List, [], ◌∷◌, length, Bool, true, false, if◌then◌else◌, arith}
 use Prim.Native.Char.{code}
-use Rattle.mdoc_converter.specs.declared.page.RowPart.TheVariants as rows
-use Rattle.mdoc_converter.specs.declared.page.Scan.{Scan}
-use Rattle.mdoc_converter.specs.declared.page.Scan.TheVariants as scans
+use Rattle.mdoc_layout.specs.declared.page.RowPart.TheVariants as rows
+use Rattle.mdoc_layout.specs.declared.page.Scan.{Scan}
+use Rattle.mdoc_layout.specs.declared.page.Scan.TheVariants as scans
 use Rattle.mdoc_converter.specs.declared.strings.Next.{Next}
 use Rattle.mdoc_converter.specs.declared.strings.Next.TheVariants as nexts
 use Rattle.mdoc_converter.specs.declared.pending.Pending.{Pending}

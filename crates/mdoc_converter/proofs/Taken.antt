@@ -4,26 +4,26 @@ use Rattle.std.proofs.lemmas.Bool.Decides.{nat_tests}
 use Rattle.std.specs.Prelude.{codes}
 use Rattle.std.specs.Str.{bytes_eq}
 use Prim.Native.Char.{code}
-use Rattle.mdoc_converter.specs.declared.acts.Act.{Act}
-use Rattle.mdoc_converter.specs.declared.acts.Act.TheVariants as acts
-use Rattle.mdoc_converter.specs.declared.acts.Request.TheVariants as requests
-use Rattle.mdoc_converter.specs.declared.acts.Text.TheVariants as texts
-use Rattle.mdoc_converter.specs.declared.macros.Font.{Font}
-use Rattle.mdoc_converter.specs.declared.macros.Font.TheVariants.{Roman, Bold, Italic}
-use Rattle.mdoc_converter.specs.declared.macros.Macro.{Macro}
-use Rattle.mdoc_converter.specs.declared.macros.Macro.TheVariants as macros
-use Rattle.mdoc_converter.specs.declared.macros.Pair.TheVariants as pairs
-use Rattle.mdoc_converter.specs.declared.page.Following.{Following}
-use Rattle.mdoc_converter.specs.declared.page.Following.TheVariants as followings
-use Rattle.mdoc_converter.specs.declared.page.Page.{Page}
-use Rattle.mdoc_converter.specs.declared.page.Parameters.TheVariants.{First, Further}
-use Rattle.mdoc_converter.specs.declared.page.Split.{Split}
-use Rattle.mdoc_converter.specs.declared.page.Split.TheVariants.{Never, Next, Always}
-use Rattle.mdoc_converter.specs.Calls.{with_call, with_place, is_nothing, is_none, heads_line, after_name, takes_no_more, called}
-use Rattle.mdoc_converter.specs.Macros.{part_font}
-use Rattle.mdoc_converter.specs.Seeing.{Offered, offered, three}
-use Rattle.mdoc_converter.specs.Taking.{author, author_line_by, named_author, splits, after_later, include, keeps_link, link, prefix, taken_by, taken_word, taken_alone_by, naming, named, named_under_condition, is_conditional, parameter, is_outside, is_first, is_listed, after_first, listing, reference, function_begins, function}
-use Rattle.mdoc_converter.specs.Texts.{closer}
+use Rattle.mdoc_layout.specs.declared.acts.Act.{Act}
+use Rattle.mdoc_layout.specs.declared.acts.Act.TheVariants as acts
+use Rattle.mdoc_layout.specs.declared.acts.Request.TheVariants as requests
+use Rattle.mdoc_layout.specs.declared.acts.Text.TheVariants as texts
+use Rattle.mdoc_layout.specs.declared.macros.Font.{Font}
+use Rattle.mdoc_layout.specs.declared.macros.Font.TheVariants.{Roman, Bold, Italic}
+use Rattle.mdoc_layout.specs.declared.macros.Macro.{Macro}
+use Rattle.mdoc_layout.specs.declared.macros.Macro.TheVariants as macros
+use Rattle.mdoc_layout.specs.declared.macros.Pair.TheVariants as pairs
+use Rattle.mdoc_layout.specs.declared.page.Following.{Following}
+use Rattle.mdoc_layout.specs.declared.page.Following.TheVariants as followings
+use Rattle.mdoc_layout.specs.declared.page.Page.{Page}
+use Rattle.mdoc_layout.specs.declared.page.Parameters.TheVariants.{First, Further}
+use Rattle.mdoc_layout.specs.declared.page.Split.{Split}
+use Rattle.mdoc_layout.specs.declared.page.Split.TheVariants.{Never, Next, Always}
+use Rattle.mdoc_words.specs.Calls.{with_call, with_place, is_nothing, is_none, heads_line, after_name, takes_no_more, called}
+use Rattle.mdoc_words.specs.Macros.{part_font}
+use Rattle.mdoc_layout.specs.Seeing.{Offered, offered, three}
+use Rattle.mdoc_words.specs.Taking.{author, author_line_by, named_author, splits, after_later, include, keeps_link, link, prefix, taken_by, taken_word, taken_alone_by, naming, named, named_under_condition, is_conditional, parameter, is_outside, is_first, is_listed, after_first, listing, reference, function_begins, function}
+use Rattle.mdoc_layout.specs.Texts.{closer}
 use Rattle.mdoc_converter.specs.WrittenLines.{Authors, Usual, said_of, way_of}
 use Rattle.mdoc_converter.proofs.Outcomes.{is_quiet, of_word, never, takes_plain, Keeps, keeps_if, keeps_no_more, Out, out, out_if, out_seen_if, out_act_if, same_page, function_closes_out}
 use Rattle.mdoc_converter.proofs.Ways.{said_part}

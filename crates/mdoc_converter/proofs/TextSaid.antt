@@ -2,23 +2,23 @@
 use Rattle.std.proofs.Common.{◌≡◌, ℕ, ◌+◌, ◌==◌, ◌≤◌, List, [], ◌∷◌, ◌++◌, Bool, true, false, not, ◌&&◌, ◌||◌, if◌then◌else◌, refl, sym, ◌∙◌, ap, subst, arith}
 use Rattle.std.specs.Prelude.{codes}
 use Prim.Native.Char.{code}
-use Rattle.mdoc_converter.specs.declared.acts.Act.{Act}
-use Rattle.mdoc_converter.specs.declared.acts.Act.TheVariants as acts
-use Rattle.mdoc_converter.specs.declared.escaping.Escape.{Escape}
-use Rattle.mdoc_converter.specs.declared.page.Before.{Before}
-use Rattle.mdoc_converter.specs.declared.page.Before.TheVariants as befores
-use Rattle.mdoc_converter.specs.declared.page.Page.{Page}
-use Rattle.mdoc_converter.specs.declared.page.Scan.{Scan}
-use Rattle.mdoc_converter.specs.declared.page.Scan.TheVariants as scans
-use Rattle.mdoc_converter.specs.Calls.{with_scan}
-use Rattle.mdoc_converter.specs.Keeping.{ends_word}
-use Rattle.mdoc_converter.specs.Columns.{has_rows}
-use Rattle.mdoc_converter.specs.Laying.{is_control, is_middle, with_lay}
-use Rattle.mdoc_converter.specs.LayingOut.{lay_out}
+use Rattle.mdoc_layout.specs.declared.acts.Act.{Act}
+use Rattle.mdoc_layout.specs.declared.acts.Act.TheVariants as acts
+use Rattle.mdoc_layout.specs.declared.page.Escape.{Escape}
+use Rattle.mdoc_layout.specs.declared.page.Before.{Before}
+use Rattle.mdoc_layout.specs.declared.page.Before.TheVariants as befores
+use Rattle.mdoc_layout.specs.declared.page.Page.{Page}
+use Rattle.mdoc_layout.specs.declared.page.Scan.{Scan}
+use Rattle.mdoc_layout.specs.declared.page.Scan.TheVariants as scans
+use Rattle.mdoc_words.specs.Calls.{with_scan}
+use Rattle.mdoc_words.specs.Keeping.{ends_word}
+use Rattle.mdoc_layout.specs.Columns.{has_rows}
+use Rattle.mdoc_layout.specs.Laying.{is_control, is_middle, with_lay}
+use Rattle.mdoc_layout.specs.LayingOut.{lay_out}
 use Rattle.mdoc_converter.specs.Reading.{State, said, heard}
 use Rattle.mdoc_converter.specs.Saying.{part_of, parts_at, parts_of, words_of}
 use Rattle.mdoc_converter.specs.Scanning.{before_next, after_hyphen, after_text, first_before, hyphen_in_text, is_letter, offer}
-use Rattle.mdoc_converter.specs.Seeing.{offered, left, taken}
+use Rattle.mdoc_layout.specs.Seeing.{offered, left, taken}
 use Rattle.mdoc_converter.specs.WordLaws.{reads_at, TextIsSaid}
 use Rattle.mdoc_converter.specs.WrittenLines.{begins_text, each, is_text, row_said}
 use Rattle.mdoc_converter.proofs.After.{after, next-state, Fresh}

@@ -2,18 +2,18 @@
 use Rattle.std.proofs.Common.{◌≡◌, Bool, true, false, not, ◌&&◌, if◌then◌else◌, refl, sym, ◌∙◌, ap}
 use Rattle.std.specs.Prelude.{codes}
 use Rattle.std.specs.Str.{bytes_eq}
-use Rattle.mdoc_converter.specs.declared.macros.Macro.{Macro}
-use Rattle.mdoc_converter.specs.declared.macros.Macro.TheVariants as macros
-use Rattle.mdoc_converter.specs.declared.page.Page.{Page}
-use Rattle.mdoc_converter.specs.declared.page.Parameters.{Parameters}
-use Rattle.mdoc_converter.specs.declared.page.Parameters.TheVariants.{Outside, First, Further}
-use Rattle.mdoc_converter.specs.declared.page.Place.{Place}
-use Rattle.mdoc_converter.specs.declared.page.Split.{Split}
-use Rattle.mdoc_converter.specs.declared.page.Split.TheVariants.{Never, Next, Always}
-use Rattle.mdoc_converter.specs.Calls.{heads_line, is_in_synopsis, is_none, with_place, takes_no_more}
-use Rattle.mdoc_converter.specs.Keeping.{is_whole, whole_for}
-use Rattle.mdoc_converter.specs.Seeing.{Offered}
-use Rattle.mdoc_converter.specs.Taking.{author, author_line_by, after_first, function, function_begins, include, is_conditional, is_first, is_outside, keeps_link, link, listing, named, named_author, naming, parameter, prefix, reference, taken_alone_by, taken_by, taken_word}
+use Rattle.mdoc_layout.specs.declared.macros.Macro.{Macro}
+use Rattle.mdoc_layout.specs.declared.macros.Macro.TheVariants as macros
+use Rattle.mdoc_layout.specs.declared.page.Page.{Page}
+use Rattle.mdoc_layout.specs.declared.page.Parameters.{Parameters}
+use Rattle.mdoc_layout.specs.declared.page.Parameters.TheVariants.{Outside, First, Further}
+use Rattle.mdoc_layout.specs.declared.page.Place.{Place}
+use Rattle.mdoc_layout.specs.declared.page.Split.{Split}
+use Rattle.mdoc_layout.specs.declared.page.Split.TheVariants.{Never, Next, Always}
+use Rattle.mdoc_words.specs.Calls.{heads_line, is_in_synopsis, is_none, with_place, takes_no_more}
+use Rattle.mdoc_words.specs.Keeping.{is_whole, whole_for}
+use Rattle.mdoc_layout.specs.Seeing.{Offered}
+use Rattle.mdoc_words.specs.Taking.{author, author_line_by, after_first, function, function_begins, include, is_conditional, is_first, is_outside, keeps_link, link, listing, named, named_author, naming, parameter, prefix, reference, taken_alone_by, taken_by, taken_word}
 use Rattle.mdoc_converter.proofs.Outcomes.{never}
 
 -- ---- pages that are the same in this

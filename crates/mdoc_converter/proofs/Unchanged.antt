@@ -3,18 +3,18 @@ use Rattle.std.proofs.Common.{◌≡◌, ℕ, ◌+◌, ◌≤◌, length, drop, 
 use Prim.Native.Char.{code}
 use Rattle.std.proofs.lemmas.Bool.Decides.{nat_tests}
 use Rattle.std.proofs.lemmas.List.{drop_all}
-use Rattle.mdoc_converter.specs.declared.page.Prefix.{Prefix}
-use Rattle.mdoc_converter.specs.declared.page.Prefix.TheVariants as prefixes
-use Rattle.mdoc_converter.specs.declared.page.Scan.{Scan}
-use Rattle.mdoc_converter.specs.declared.page.Scan.TheVariants as scans
+use Rattle.mdoc_layout.specs.declared.page.Prefix.{Prefix}
+use Rattle.mdoc_layout.specs.declared.page.Prefix.TheVariants as prefixes
+use Rattle.mdoc_layout.specs.declared.page.Scan.{Scan}
+use Rattle.mdoc_layout.specs.declared.page.Scan.TheVariants as scans
 use Rattle.mdoc_converter.specs.declared.pending.Pending.TheVariants.{Nothing}
-use Rattle.mdoc_converter.specs.LayingOut.{lay_out}
+use Rattle.mdoc_layout.specs.LayingOut.{lay_out}
 use Rattle.mdoc_converter.specs.Passing.{leads_after, leads_with, leads_on, is_other}
 use Rattle.mdoc_converter.specs.Reading.{State, Emitted, emitted, preceded, said, once, once_seen, heard_in, heard, read, fed, finished, first_state, converted}
-use Rattle.mdoc_converter.specs.Keeping.{ends_word}
+use Rattle.mdoc_words.specs.Keeping.{ends_word}
 use Rattle.mdoc_converter.specs.Scanning.{asleep_with, prefix_grows, prefix_then, gives_up, is_blank, offer, offer_whole, passes_to, wakes}
-use Rattle.mdoc_converter.specs.Texts.{prefix_of}
-use Rattle.mdoc_converter.specs.Calls.{with_scan}
+use Rattle.mdoc_layout.specs.Texts.{prefix_of}
+use Rattle.mdoc_words.specs.Calls.{with_scan}
 
 -- a page that is read so
 unfoldable pub at : Scan → State → State

@@ -2,28 +2,28 @@
 use Rattle.std.proofs.Common.{◌≡◌, ℕ, ◌≤◌, ◌-◌, List, [], ◌∷◌, ◌++◌, length, length-append, take, Bool, true, false, not, ◌&&◌, ◌==◌, if◌then◌else◌, Option, None, Some, refl, sym, ◌∙◌, ap, subst, append-nil, arith}
 use Rattle.std.proofs.lemmas.Bool.Decides.{nat_tests}
 use Rattle.std.proofs.lemmas.List.{length-take}
-use Rattle.mdoc_converter.specs.declared.acts.Act.TheVariants as acts
-use Rattle.mdoc_converter.specs.declared.acts.Text.TheVariants as texts
-use Rattle.mdoc_converter.specs.declared.macros.Font.TheVariants.{Roman}
-use Rattle.mdoc_converter.specs.declared.macros.Macro.{Macro}
-use Rattle.mdoc_converter.specs.declared.macros.Macro.TheVariants as macros
-use Rattle.mdoc_converter.specs.declared.macros.Pair.TheVariants as pairs
-use Rattle.mdoc_converter.specs.declared.page.Lay.{Lay}
-use Rattle.mdoc_converter.specs.declared.page.Page.{Page}
-use Rattle.mdoc_converter.specs.declared.page.Scan.TheVariants as scans
-use Rattle.mdoc_converter.specs.declared.seen.Seen.{Seen}
-use Rattle.mdoc_converter.specs.Calls.{called_by, called, calls, call, encloses_address, ends_cell, is_pending, is_enclosure_pending, is_flag, is_none, joining, leaves, opens_address, seen_with, taking, with_scan}
-use Rattle.mdoc_converter.specs.Laying.{put_closing, was_put, with_lay}
-use Rattle.mdoc_converter.specs.LayingOut.{lay_out}
-use Rattle.mdoc_converter.specs.Macros.{is_callable}
-use Rattle.mdoc_converter.specs.Options.{is_heading, reads_for}
+use Rattle.mdoc_layout.specs.declared.acts.Act.TheVariants as acts
+use Rattle.mdoc_layout.specs.declared.acts.Text.TheVariants as texts
+use Rattle.mdoc_layout.specs.declared.macros.Font.TheVariants.{Roman}
+use Rattle.mdoc_layout.specs.declared.macros.Macro.{Macro}
+use Rattle.mdoc_layout.specs.declared.macros.Macro.TheVariants as macros
+use Rattle.mdoc_layout.specs.declared.macros.Pair.TheVariants as pairs
+use Rattle.mdoc_layout.specs.declared.page.Lay.{Lay}
+use Rattle.mdoc_layout.specs.declared.page.Page.{Page}
+use Rattle.mdoc_layout.specs.declared.page.Scan.TheVariants as scans
+use Rattle.mdoc_layout.specs.declared.seen.Seen.{Seen}
+use Rattle.mdoc_words.specs.Calls.{called_by, called, calls, call, encloses_address, ends_cell, is_pending, is_enclosure_pending, is_flag, is_none, joining, leaves, opens_address, seen_with, taking, with_scan}
+use Rattle.mdoc_layout.specs.Laying.{put_closing, was_put, with_lay}
+use Rattle.mdoc_layout.specs.LayingOut.{lay_out}
+use Rattle.mdoc_words.specs.Macros.{is_callable}
+use Rattle.mdoc_words.specs.Options.{is_heading, reads_for}
 use Rattle.mdoc_converter.specs.Reading.{State, said}
 use Rattle.mdoc_converter.specs.Scanning.{offer}
-use Rattle.mdoc_converter.specs.Seeing.{Offered, offered, left, two, three}
-use Rattle.mdoc_converter.specs.Texts.{closer}
-use Rattle.mdoc_converter.specs.Taking.{argument, is_bar, is_opening, some_taken, taken_word}
+use Rattle.mdoc_layout.specs.Seeing.{Offered, offered, left, two, three}
+use Rattle.mdoc_layout.specs.Texts.{closer}
+use Rattle.mdoc_words.specs.Taking.{argument, is_bar, is_opening, some_taken, taken_word}
 use Rattle.mdoc_converter.specs.WrittenLines.{asks, heads_words, none_or, prints_otherwise, prints_words, said_of, unless_called, Way, Usual, way_after, way_of}
-use Rattle.mdoc_converter.specs.Words.{closing_mark, marked_or, parsed, read_or_called, unmarked}
+use Rattle.mdoc_words.specs.Words.{closing_mark, marked_or, parsed, read_or_called, unmarked}
 use Rattle.mdoc_converter.proofs.Escapes.{and_left, and_right, is_not}
 use Rattle.mdoc_converter.proofs.Given.{Whole, whole_of, whole_after, whole_within, given_offered}
 use Rattle.mdoc_converter.proofs.MarksHeld.{the_mark, one_at_most, two_at_most, mark_whole}

@@ -2,22 +2,22 @@
 use Rattle.std.proofs.Common.{◌≡◌, ℕ, ◌≤◌, ◌<◌, ◌+◌, List, [], ◌∷◌, ◌++◌, length, Bool, true, false, not, ◌&&◌, ◌||◌, ◌==◌, nat_lt, if◌then◌else◌, refl, ◌∙◌, ap, append_assoc, arith}
 use Rattle.std.proofs.lemmas.Bool.Decides.{nat_tests}
 use Prim.Native.Char.{code}
-use Rattle.mdoc_converter.specs.declared.acts.Act.TheVariants as acts
-use Rattle.mdoc_converter.specs.declared.escaping.Escape.{Escape as Reached}
-use Rattle.mdoc_converter.specs.declared.escaping.Escape.TheVariants as escapes
-use Rattle.mdoc_converter.specs.declared.macros.Macro.{Macro}
-use Rattle.mdoc_converter.specs.declared.page.Inside.TheVariants as insides
-use Rattle.mdoc_converter.specs.declared.page.Page.{Page}
-use Rattle.mdoc_converter.specs.declared.page.Scan.{Scan}
-use Rattle.mdoc_converter.specs.declared.page.Scan.TheVariants as scans
-use Rattle.mdoc_converter.specs.Calls.{with_scan}
-use Rattle.mdoc_converter.specs.Escaping.{escape_then}
-use Rattle.mdoc_converter.specs.Keeping.{after_name, ends_escape, ends_word, in_named, in_word_of, is_whole, keep, keep_begun, keep_escape, keep_unshown, keeping, turns, whole_for, widens, wider, within, within_escape}
-use Rattle.mdoc_converter.specs.LayingOut.{lay_out}
-use Rattle.mdoc_converter.specs.Options.{is_heading, is_shown, reads_for}
+use Rattle.mdoc_layout.specs.declared.acts.Act.TheVariants as acts
+use Rattle.mdoc_layout.specs.declared.page.Escape.{Escape as Reached}
+use Rattle.mdoc_layout.specs.declared.page.Escape.TheVariants as escapes
+use Rattle.mdoc_layout.specs.declared.macros.Macro.{Macro}
+use Rattle.mdoc_layout.specs.declared.page.Inside.TheVariants as insides
+use Rattle.mdoc_layout.specs.declared.page.Page.{Page}
+use Rattle.mdoc_layout.specs.declared.page.Scan.{Scan}
+use Rattle.mdoc_layout.specs.declared.page.Scan.TheVariants as scans
+use Rattle.mdoc_words.specs.Calls.{with_scan}
+use Rattle.mdoc_words.specs.Escaping.{escape_then}
+use Rattle.mdoc_words.specs.Keeping.{after_name, ends_escape, ends_word, in_named, in_word_of, is_whole, keep, keep_begun, keep_escape, keep_unshown, keeping, turns, whole_for, widens, wider, within, within_escape}
+use Rattle.mdoc_layout.specs.LayingOut.{lay_out}
+use Rattle.mdoc_words.specs.Options.{is_heading, is_shown, reads_for}
 use Rattle.mdoc_converter.specs.Reading.{State, said}
 use Rattle.mdoc_converter.specs.Scanning.{offer, offer_at}
-use Rattle.mdoc_converter.specs.Seeing.{Offered, offered, left, taken}
+use Rattle.mdoc_layout.specs.Seeing.{Offered, offered, left, taken}
 use Rattle.mdoc_converter.specs.WrittenLines.{is_escaped, is_plain, is_quotable}
 use Rattle.mdoc_converter.proofs.Escapes.{and_left, and_right, is_not}
 use Rattle.mdoc_converter.proofs.Given.{plain_reads}

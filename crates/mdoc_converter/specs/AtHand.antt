@@ -1,9 +1,9 @@
 -- Bytes that pass at once.
 use Rattle.std.specs.Prelude.{◌≡◌, ℕ, ◌+◌, List, [], ◌∷◌, length, Bool, true, false, ◌==◌, if◌then◌else◌}
 use Prim.Native.Char.{code}
-use Rattle.mdoc_converter.specs.declared.page.Prefix.TheVariants.{Comment, Other}
-use Rattle.mdoc_converter.specs.declared.page.Scan.{Scan}
-use Rattle.mdoc_converter.specs.declared.page.Scan.TheVariants as scans
+use Rattle.mdoc_layout.specs.declared.page.Prefix.TheVariants.{Comment, Other}
+use Rattle.mdoc_layout.specs.declared.page.Scan.{Scan}
+use Rattle.mdoc_layout.specs.declared.page.Scan.TheVariants as scans
 use Rattle.mdoc_converter.specs.declared.pending.Pending.{Pending}
 use Rattle.mdoc_converter.specs.declared.pending.Pending.TheVariants.{Nothing}
 use Rattle.mdoc_converter.specs.declared.reader.Reader.{Reader}

@@ -2,12 +2,12 @@
 use Rattle.std.specs.Prelude.{ℕ, ◌+◌, List, [], ◌∷◌, ◌++◌, length, Bool, false, not, ◌==◌, ◌&&◌, ◌||◌, nat_lt, nat_le, if◌then◌else◌, slice_index}
 use Prim.Native.Char.{code}
 use Rattle.nr_units.specs.Name.{is_full}
-use Rattle.mdoc_converter.specs.declared.acts.Act.TheVariants as acts
-use Rattle.mdoc_converter.specs.declared.page.Dots.TheVariants as dots
-use Rattle.mdoc_converter.specs.declared.page.Page.{Page}
-use Rattle.mdoc_converter.specs.declared.page.Scan.TheVariants as scans
-use Rattle.mdoc_converter.specs.Keeping.{turns}
-use Rattle.mdoc_converter.specs.Seeing.{Offered, offered, taken}
+use Rattle.mdoc_layout.specs.declared.acts.Act.TheVariants as acts
+use Rattle.mdoc_layout.specs.declared.page.Dots.TheVariants as dots
+use Rattle.mdoc_layout.specs.declared.page.Page.{Page}
+use Rattle.mdoc_layout.specs.declared.page.Scan.TheVariants as scans
+use Rattle.mdoc_words.specs.Keeping.{turns}
+use Rattle.mdoc_layout.specs.Seeing.{Offered, offered, taken}
 
 -- a name stands at this place of names, two bytes after one another
 abbrev pub is_at : List ℕ → ℕ → ℕ → ℕ → Bool

@@ -2,34 +2,33 @@
 use Rattle.std.specs.Prelude.{◌≡◌, ℕ, ◌-◌, List, [], ◌∷◌, length, take, Bool, true, false, not, ◌==◌, ◌&&◌, ◌||◌, nat_le, if◌then◌else◌, slice_index, codes, Option, None, Some}
 use Rattle.std.specs.Str.{bytes_eq}
 use Prim.Native.Char.{code}
-use Rattle.mdoc_converter.specs.declared.acts.Act.{Act}
-use Rattle.mdoc_converter.specs.declared.acts.Act.TheVariants as acts
-use Rattle.mdoc_converter.specs.declared.acts.Stack.TheVariants.{Empties}
-use Rattle.mdoc_converter.specs.declared.acts.Request.TheVariants as requests
-use Rattle.mdoc_converter.specs.declared.acts.Text.TheVariants as texts
-use Rattle.mdoc_converter.specs.declared.macros.Font.TheVariants.{Roman}
-use Rattle.mdoc_converter.specs.declared.macros.Macro.{Macro}
-use Rattle.mdoc_converter.specs.declared.macros.Macro.TheVariants as macros
-use Rattle.mdoc_converter.specs.declared.page.Following.TheVariants as followings
-use Rattle.mdoc_converter.specs.declared.page.Call.{Call}
-use Rattle.mdoc_converter.specs.declared.page.Kind.{Kind}
-use Rattle.mdoc_converter.specs.declared.page.Kind.TheVariants as kinds
-use Rattle.mdoc_converter.specs.declared.page.Last.{Last}
-use Rattle.mdoc_converter.specs.declared.page.Last.TheVariants as lasts
-use Rattle.mdoc_converter.specs.declared.page.Page.{Page}
-use Rattle.mdoc_converter.specs.declared.page.RowPart.TheVariants as rows
-use Rattle.mdoc_converter.specs.declared.page.Scan.TheVariants as scans
-use Rattle.mdoc_converter.specs.declared.page.Section.{Section}
-use Rattle.mdoc_converter.specs.declared.page.Section.TheVariants as sections
-use Rattle.mdoc_converter.specs.declared.page.Split.TheVariants as splits
-use Rattle.mdoc_converter.specs.declared.page.Wanted.TheVariants as wanteds
-use Rattle.mdoc_converter.specs.declared.seen.Seen.{Seen}
-use Rattle.mdoc_converter.specs.Blocks.{block_opens, item, item_ends, list_begins, list_ends, display_begins, display_ends, outer_goes_on, line_opens, tag_ends}
+use Rattle.mdoc_layout.specs.declared.acts.Act.{Act}
+use Rattle.mdoc_layout.specs.declared.acts.Act.TheVariants as acts
+use Rattle.mdoc_layout.specs.declared.acts.Stack.TheVariants.{Empties}
+use Rattle.mdoc_layout.specs.declared.acts.Request.TheVariants as requests
+use Rattle.mdoc_layout.specs.declared.acts.Text.TheVariants as texts
+use Rattle.mdoc_layout.specs.declared.macros.Font.TheVariants.{Roman}
+use Rattle.mdoc_layout.specs.declared.macros.Macro.{Macro}
+use Rattle.mdoc_layout.specs.declared.macros.Macro.TheVariants as macros
+use Rattle.mdoc_layout.specs.declared.page.Following.TheVariants as followings
+use Rattle.mdoc_layout.specs.declared.page.Call.{Call}
+use Rattle.mdoc_layout.specs.declared.page.Kind.{Kind}
+use Rattle.mdoc_layout.specs.declared.page.Kind.TheVariants as kinds
+use Rattle.mdoc_layout.specs.declared.page.Last.{Last}
+use Rattle.mdoc_layout.specs.declared.page.Last.TheVariants as lasts
+use Rattle.mdoc_layout.specs.declared.page.Page.{Page}
+use Rattle.mdoc_layout.specs.declared.page.RowPart.TheVariants as rows
+use Rattle.mdoc_layout.specs.declared.page.Scan.TheVariants as scans
+use Rattle.mdoc_layout.specs.declared.page.Section.{Section}
+use Rattle.mdoc_layout.specs.declared.page.Section.TheVariants as sections
+use Rattle.mdoc_layout.specs.declared.page.Split.TheVariants as splits
+use Rattle.mdoc_layout.specs.declared.page.Wanted.TheVariants as wanteds
+use Rattle.mdoc_layout.specs.declared.seen.Seen.{Seen}
+use Rattle.mdoc_layout.specs.Blocks.{block_opens, item, item_ends, list_begins, list_ends, display_begins, display_ends, outer_goes_on, line_opens, tag_ends}
 use Rattle.mdoc_converter.specs.Definitions.{is_own}
-use Rattle.mdoc_converter.specs.Macros.{macro_of}
-use Rattle.mdoc_converter.specs.Options.{none}
-use Rattle.mdoc_converter.specs.Seeing.{Offered, offered, left, two, three, and_taken, with_stack}
-use Rattle.mdoc_converter.specs.Calls.{called, is_pending, leaves, is_none, is_synopsis, with_place, with_scan}
+use Rattle.mdoc_words.specs.Macros.{macro_of}
+use Rattle.mdoc_layout.specs.Seeing.{Offered, and_taken, left, none, offered, three, two, with_stack}
+use Rattle.mdoc_words.specs.Calls.{called, is_pending, leaves, is_none, is_synopsis, with_place, with_scan}
 
 -- names of macros begin with a capital letter, or with a percent sign
 abbrev pub is_request : List ℕ → Bool

@@ -1,11 +1,11 @@
 -- Pages that are no mdoc(7): none of the first sixty-four lines that are neither empty nor comments begins with `.Dd`
 -- and what ends a word.
 use Rattle.std.specs.Prelude.{ℕ, List, [], ◌∷◌, Bool, if◌then◌else◌, Option, None, Some, is_some}
-use Rattle.mdoc_converter.specs.declared.page.Prefix.{Prefix}
-use Rattle.mdoc_converter.specs.declared.page.Prefix.TheVariants as prefixes
-use Rattle.mdoc_converter.specs.declared.page.Scan.{Scan}
-use Rattle.mdoc_converter.specs.declared.page.Scan.TheVariants as scans
-use Rattle.mdoc_converter.specs.Keeping.{ends_word}
+use Rattle.mdoc_layout.specs.declared.page.Prefix.{Prefix}
+use Rattle.mdoc_layout.specs.declared.page.Prefix.TheVariants as prefixes
+use Rattle.mdoc_layout.specs.declared.page.Scan.{Scan}
+use Rattle.mdoc_layout.specs.declared.page.Scan.TheVariants as scans
+use Rattle.mdoc_words.specs.Keeping.{ends_word}
 use Rattle.mdoc_converter.specs.Scanning.{prefix_grows, given_up, passes_to}
 
 -- where a byte leads that goes on no `.Dd`: nowhere, if it ends one

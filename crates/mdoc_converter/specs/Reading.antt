@@ -1,37 +1,37 @@
 -- Bytes are read, one after another, and what comes of a whole page.
 use Rattle.std.specs.Prelude.{ℕ, zero, suc, ◌+◌, ◌-◌, List, [], ◌∷◌, ◌++◌, length, take, Bool, true, false, ◌==◌, nat_lt, if◌then◌else◌, slice_get, Option, None, Some}
 use Prim.Native.Char.{code}
-use Rattle.mdoc_converter.specs.declared.acts.Stack.{Stack}
-use Rattle.mdoc_converter.specs.declared.acts.Stack.TheVariants.{Stay, Opens, Closes, Empties}
-use Rattle.mdoc_converter.specs.declared.macros.Font.TheVariants.{Roman}
-use Rattle.mdoc_converter.specs.declared.macros.Macro.TheVariants as macros
-use Rattle.mdoc_converter.specs.declared.page.At.TheVariants as ats
-use Rattle.mdoc_converter.specs.declared.page.Block.{Block}
-use Rattle.mdoc_converter.specs.declared.page.Prefix.TheVariants as prefixes
-use Rattle.mdoc_converter.specs.declared.page.Last.TheVariants as lasts
-use Rattle.mdoc_converter.specs.declared.page.Lay.{Lay}
-use Rattle.mdoc_converter.specs.declared.page.Page.{Page}
-use Rattle.mdoc_converter.specs.declared.page.Parameters.TheVariants.{Outside}
-use Rattle.mdoc_converter.specs.declared.page.Place.{Place}
-use Rattle.mdoc_converter.specs.declared.page.RowPart.TheVariants as rows
-use Rattle.mdoc_converter.specs.declared.page.Scan.{Scan}
-use Rattle.mdoc_converter.specs.declared.page.Scan.TheVariants as scans
-use Rattle.mdoc_converter.specs.declared.page.Section.TheVariants as sections
-use Rattle.mdoc_converter.specs.declared.page.Split.TheVariants as splits
+use Rattle.mdoc_layout.specs.declared.acts.Stack.{Stack}
+use Rattle.mdoc_layout.specs.declared.acts.Stack.TheVariants.{Stay, Opens, Closes, Empties}
+use Rattle.mdoc_layout.specs.declared.macros.Font.TheVariants.{Roman}
+use Rattle.mdoc_layout.specs.declared.macros.Macro.TheVariants as macros
+use Rattle.mdoc_layout.specs.declared.page.At.TheVariants as ats
+use Rattle.mdoc_layout.specs.declared.page.Block.{Block}
+use Rattle.mdoc_layout.specs.declared.page.Prefix.TheVariants as prefixes
+use Rattle.mdoc_layout.specs.declared.page.Last.TheVariants as lasts
+use Rattle.mdoc_layout.specs.declared.page.Lay.{Lay}
+use Rattle.mdoc_layout.specs.declared.page.Page.{Page}
+use Rattle.mdoc_layout.specs.declared.page.Parameters.TheVariants.{Outside}
+use Rattle.mdoc_layout.specs.declared.page.Place.{Place}
+use Rattle.mdoc_layout.specs.declared.page.RowPart.TheVariants as rows
+use Rattle.mdoc_layout.specs.declared.page.Scan.{Scan}
+use Rattle.mdoc_layout.specs.declared.page.Scan.TheVariants as scans
+use Rattle.mdoc_layout.specs.declared.page.Section.TheVariants as sections
+use Rattle.mdoc_layout.specs.declared.page.Split.TheVariants as splits
 use Rattle.mdoc_converter.specs.declared.reader.Reader.{Reader}
-use Rattle.mdoc_converter.specs.declared.seen.Seen.{Seen}
+use Rattle.mdoc_layout.specs.declared.seen.Seen.{Seen}
 use Rattle.mdoc_converter.specs.declared.pending.Pending.{Pending}
 use Rattle.mdoc_converter.specs.declared.pending.Pending.TheVariants as pendings
 use Rattle.mdoc_converter.specs.declared.pending.Pending.TheVariants.{Nothing}
-use Rattle.mdoc_converter.specs.Blocks.{no_block}
-use Rattle.mdoc_converter.specs.Laying.{Laid, then_laid}
-use Rattle.mdoc_converter.specs.LayingOut.{lay_out}
-use Rattle.mdoc_converter.specs.OwnLines.{line_end}
+use Rattle.mdoc_layout.specs.Blocks.{no_block}
+use Rattle.mdoc_layout.specs.Laying.{Laid, then_laid}
+use Rattle.mdoc_layout.specs.LayingOut.{lay_out}
+use Rattle.mdoc_layout.specs.OwnLines.{line_end}
 use Rattle.mdoc_converter.specs.Lines.{call_of}
 use Rattle.mdoc_converter.specs.Scanning.{offer}
-use Rattle.mdoc_converter.specs.Seeing.{Offered}
+use Rattle.mdoc_layout.specs.Seeing.{Offered}
 use Rattle.mdoc_converter.specs.Strings.{offered_by, takes_strings}
-use Rattle.mdoc_converter.specs.Texts.{prefix_of}
+use Rattle.mdoc_layout.specs.Texts.{prefix_of}
 use Rattle.mdoc_converter.specs.declared.strings.Next.{Next}
 use Rattle.mdoc_converter.specs.declared.strings.Next.TheVariants as nexts
 

@@ -2,20 +2,20 @@
 use Rattle.std.specs.Prelude.{ℕ, List, [], ◌∷◌, ◌++◌, Bool, true, false, ◌==◌, ◌||◌, if◌then◌else◌, codes, Option, Some}
 use Prim.Native.Char.{code}
 use Rattle.nr_units.specs.Name.{is_full}
-use Rattle.mdoc_converter.specs.declared.acts.Act.TheVariants as acts
-use Rattle.mdoc_converter.specs.declared.acts.Request.TheVariants as requests
-use Rattle.mdoc_converter.specs.declared.macros.Macro.{Macro}
-use Rattle.mdoc_converter.specs.declared.macros.Macro.TheVariants as macros
-use Rattle.mdoc_converter.specs.declared.page.Page.{Page}
-use Rattle.mdoc_converter.specs.declared.page.RowPart.{RowPart}
-use Rattle.mdoc_converter.specs.declared.page.RowPart.TheVariants as rows
-use Rattle.mdoc_converter.specs.declared.page.Scan.{Scan}
-use Rattle.mdoc_converter.specs.declared.page.Scan.TheVariants as scans
-use Rattle.mdoc_converter.specs.Keeping.{ends_word, turns}
-use Rattle.mdoc_converter.specs.Laying.{is_control}
+use Rattle.mdoc_layout.specs.declared.acts.Act.TheVariants as acts
+use Rattle.mdoc_layout.specs.declared.acts.Request.TheVariants as requests
+use Rattle.mdoc_layout.specs.declared.macros.Macro.{Macro}
+use Rattle.mdoc_layout.specs.declared.macros.Macro.TheVariants as macros
+use Rattle.mdoc_layout.specs.declared.page.Page.{Page}
+use Rattle.mdoc_layout.specs.declared.page.RowPart.{RowPart}
+use Rattle.mdoc_layout.specs.declared.page.RowPart.TheVariants as rows
+use Rattle.mdoc_layout.specs.declared.page.Scan.{Scan}
+use Rattle.mdoc_layout.specs.declared.page.Scan.TheVariants as scans
+use Rattle.mdoc_words.specs.Keeping.{ends_word, turns}
+use Rattle.mdoc_layout.specs.Laying.{is_control}
 use Rattle.mdoc_converter.specs.Lines.{is_request}
-use Rattle.mdoc_converter.specs.Macros.{macro_of}
-use Rattle.mdoc_converter.specs.Seeing.{Offered, offered, left, two, taken}
+use Rattle.mdoc_words.specs.Macros.{macro_of}
+use Rattle.mdoc_layout.specs.Seeing.{Offered, offered, left, two, taken}
 
 abbrev pub is_of_table : Option Macro → Bool
 is_of_table (Some macros.Table) = true

@@ -1,17 +1,17 @@
 -- What is said while bytes are heard, in parts: the bytes of words, and what stands before and after them.
 use Rattle.std.specs.Prelude.{ℕ, zero, suc, List, [], ◌∷◌, ◌++◌, Bool, true, if◌then◌else◌, codes}
 use Prim.Native.Char.{code}
-use Rattle.mdoc_converter.specs.declared.acts.Act.{Act}
-use Rattle.mdoc_converter.specs.declared.acts.Act.TheVariants as acts
-use Rattle.mdoc_converter.specs.declared.macros.Font.{Font}
-use Rattle.mdoc_converter.specs.declared.macros.Font.TheVariants.{Roman, Bold}
-use Rattle.mdoc_converter.specs.declared.page.Page.{Page}
-use Rattle.mdoc_converter.specs.declared.seen.Seen.{Seen}
-use Rattle.mdoc_converter.specs.Laying.{gap, first_in, first_of, before_hyphen, is_joined, was_put, end_word, word_end}
-use Rattle.mdoc_converter.specs.LayingOut.{lay_out}
+use Rattle.mdoc_layout.specs.declared.acts.Act.{Act}
+use Rattle.mdoc_layout.specs.declared.acts.Act.TheVariants as acts
+use Rattle.mdoc_layout.specs.declared.macros.Font.{Font}
+use Rattle.mdoc_layout.specs.declared.macros.Font.TheVariants.{Roman, Bold}
+use Rattle.mdoc_layout.specs.declared.page.Page.{Page}
+use Rattle.mdoc_layout.specs.declared.seen.Seen.{Seen}
+use Rattle.mdoc_layout.specs.Laying.{gap, first_in, first_of, before_hyphen, is_joined, was_put, end_word, word_end}
+use Rattle.mdoc_layout.specs.LayingOut.{lay_out}
 use Rattle.mdoc_converter.specs.Reading.{State, once, heard}
 use Rattle.mdoc_converter.specs.Scanning.{offer}
-use Rattle.mdoc_converter.specs.Texts.{font_begin, font_end}
+use Rattle.mdoc_layout.specs.Texts.{font_begin, font_end}
 
 -- the bytes of a word, or of marks, and what a macro adds before and after them
 pub record Part : Type 0 where

@@ -2,33 +2,33 @@
 use Rattle.std.specs.Prelude.{ℕ, ◌+◌, [], ◌∷◌, ◌++◌, Bool, true, false, not, ◌==◌, ◌&&◌, ◌||◌, nat_lt, if◌then◌else◌, codes, Option, None, Some, nat_le}
 use Prim.Native.Char.{code}
 use Rattle.nr_units.specs.Name.{is_full}
-use Rattle.mdoc_converter.specs.declared.acts.Act.TheVariants as acts
-use Rattle.mdoc_converter.specs.declared.acts.Request.TheVariants as requests
-use Rattle.mdoc_converter.specs.declared.acts.Text.TheVariants as texts
-use Rattle.mdoc_converter.specs.declared.macros.Macro.TheVariants as macros
-use Rattle.mdoc_converter.specs.declared.page.Last.TheVariants as lasts
-use Rattle.mdoc_converter.specs.declared.page.Page.{Page}
-use Rattle.mdoc_converter.specs.declared.page.Scan.{Scan}
-use Rattle.mdoc_converter.specs.declared.page.Scan.TheVariants as scans
-use Rattle.mdoc_converter.specs.declared.page.Before.{Before}
-use Rattle.mdoc_converter.specs.declared.page.Before.TheVariants as befores
-use Rattle.mdoc_converter.specs.declared.escaping.Escape.{Escape}
-use Rattle.mdoc_converter.specs.declared.escaping.Escape.TheVariants as escapes
-use Rattle.mdoc_converter.specs.declared.page.Dots.{Dots}
-use Rattle.mdoc_converter.specs.declared.page.Dots.TheVariants as dots
-use Rattle.mdoc_converter.specs.declared.page.Prefix.{Prefix}
-use Rattle.mdoc_converter.specs.declared.page.Prefix.TheVariants as prefixes
-use Rattle.mdoc_converter.specs.declared.seen.Seen.{Seen}
-use Rattle.mdoc_converter.specs.Calls.{tab}
-use Rattle.mdoc_converter.specs.Columns.{has_rows}
+use Rattle.mdoc_layout.specs.declared.acts.Act.TheVariants as acts
+use Rattle.mdoc_layout.specs.declared.acts.Request.TheVariants as requests
+use Rattle.mdoc_layout.specs.declared.acts.Text.TheVariants as texts
+use Rattle.mdoc_layout.specs.declared.macros.Macro.TheVariants as macros
+use Rattle.mdoc_layout.specs.declared.page.Last.TheVariants as lasts
+use Rattle.mdoc_layout.specs.declared.page.Page.{Page}
+use Rattle.mdoc_layout.specs.declared.page.Scan.{Scan}
+use Rattle.mdoc_layout.specs.declared.page.Scan.TheVariants as scans
+use Rattle.mdoc_layout.specs.declared.page.Before.{Before}
+use Rattle.mdoc_layout.specs.declared.page.Before.TheVariants as befores
+use Rattle.mdoc_layout.specs.declared.page.Escape.{Escape}
+use Rattle.mdoc_layout.specs.declared.page.Escape.TheVariants as escapes
+use Rattle.mdoc_layout.specs.declared.page.Dots.{Dots}
+use Rattle.mdoc_layout.specs.declared.page.Dots.TheVariants as dots
+use Rattle.mdoc_layout.specs.declared.page.Prefix.{Prefix}
+use Rattle.mdoc_layout.specs.declared.page.Prefix.TheVariants as prefixes
+use Rattle.mdoc_layout.specs.declared.seen.Seen.{Seen}
+use Rattle.mdoc_words.specs.Calls.{tab}
+use Rattle.mdoc_layout.specs.Columns.{has_rows}
 use Rattle.mdoc_converter.specs.Definitions.{in_definition}
-use Rattle.mdoc_converter.specs.Escaping.{escape_then}
-use Rattle.mdoc_converter.specs.Keeping.{ends_word, turns, word_begins, in_word, in_quotes, closing, in_escape, in_name_of}
-use Rattle.mdoc_converter.specs.Laying.{is_control}
+use Rattle.mdoc_words.specs.Escaping.{escape_then}
+use Rattle.mdoc_words.specs.Keeping.{ends_word, turns, word_begins, in_word, in_quotes, closing, in_escape, in_name_of}
+use Rattle.mdoc_layout.specs.Laying.{is_control}
 use Rattle.mdoc_converter.specs.Lines.{call_of, named_line, ends}
 use Rattle.mdoc_converter.specs.Rows.{in_table}
-use Rattle.mdoc_converter.specs.Seeing.{Offered, offered, left, two, taken, and_taken}
-use Rattle.mdoc_converter.specs.Words.{given, long, goes_on}
+use Rattle.mdoc_layout.specs.Seeing.{Offered, offered, left, two, taken, and_taken}
+use Rattle.mdoc_words.specs.Words.{given, long, goes_on}
 
 abbrev pub is_letter : ℕ → Bool
 is_letter b = (nat_le (code "A") b && nat_le b (code "Z")) || (nat_le (code "a") b && nat_le b (code "z"))

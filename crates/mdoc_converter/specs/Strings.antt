@@ -1,16 +1,16 @@
 -- Strings that mdoc names (mdoc(7), Predefined Strings): `\*(xx` and `\*[xx]`.
 use Rattle.std.specs.Prelude.{ℕ, List, Bool, true, false, ◌==◌, ◌&&◌, if◌then◌else◌, slice_index, Option, None, Some}
 use Prim.Native.Char.{code}
-use Rattle.mdoc_converter.specs.declared.page.RowPart.{RowPart}
-use Rattle.mdoc_converter.specs.declared.page.RowPart.TheVariants as rows
-use Rattle.mdoc_converter.specs.declared.page.Scan.{Scan}
-use Rattle.mdoc_converter.specs.declared.page.Scan.TheVariants as scans
+use Rattle.mdoc_layout.specs.declared.page.RowPart.{RowPart}
+use Rattle.mdoc_layout.specs.declared.page.RowPart.TheVariants as rows
+use Rattle.mdoc_layout.specs.declared.page.Scan.{Scan}
+use Rattle.mdoc_layout.specs.declared.page.Scan.TheVariants as scans
 use Rattle.mdoc_converter.specs.declared.strings.TheConstants.{STRINGS}
 use Rattle.mdoc_converter.specs.declared.strings.Next.{Next}
 use Rattle.mdoc_converter.specs.declared.strings.Next.TheVariants.{Waits, Says, Breaks}
 use Rattle.mdoc_converter.specs.declared.pending.Pending.{Pending}
 use Rattle.mdoc_converter.specs.declared.pending.Pending.TheVariants as pendings
-use Rattle.mdoc_converter.specs.Macros.{looked_up}
+use Rattle.mdoc_words.specs.Macros.{looked_up}
 
 -- what a string stands for
 unfoldable pub string_named : ℕ → ℕ → Option (List ℕ)

@@ -1,18 +1,18 @@
 -- What is said of the words of lines and of the enclosures that a line opened, in any state of the page.
 use Rattle.std.specs.Prelude.{◌≡◌, ℕ, ◌+◌, List, [], ◌∷◌, ◌++◌, length, reverse, Bool, nat_lt, true, false, not, ◌&&◌, ◌||◌, if◌then◌else◌, codes, Option, None, Some}
-use Rattle.mdoc_converter.specs.declared.acts.Act.TheVariants as acts
-use Rattle.mdoc_converter.specs.declared.acts.Text.TheVariants as texts
-use Rattle.mdoc_converter.specs.declared.macros.Macro.{Macro}
-use Rattle.mdoc_converter.specs.declared.page.Page.{Page}
-use Rattle.mdoc_converter.specs.declared.page.Scan.{Scan}
-use Rattle.mdoc_converter.specs.declared.page.Scan.TheVariants as scans
+use Rattle.mdoc_layout.specs.declared.acts.Act.TheVariants as acts
+use Rattle.mdoc_layout.specs.declared.acts.Text.TheVariants as texts
+use Rattle.mdoc_layout.specs.declared.macros.Macro.{Macro}
+use Rattle.mdoc_layout.specs.declared.page.Page.{Page}
+use Rattle.mdoc_layout.specs.declared.page.Scan.{Scan}
+use Rattle.mdoc_layout.specs.declared.page.Scan.TheVariants as scans
 use Rattle.mdoc_converter.specs.declared.pending.Pending.TheVariants.{Nothing}
-use Rattle.mdoc_converter.specs.Calls.{is_pending, with_scan}
-use Rattle.mdoc_converter.specs.Columns.{has_rows}
-use Rattle.mdoc_converter.specs.Laying.{Laid, laid, then_laid}
-use Rattle.mdoc_converter.specs.LayingOut.{lay_out}
+use Rattle.mdoc_words.specs.Calls.{is_pending, with_scan}
+use Rattle.mdoc_layout.specs.Columns.{has_rows}
+use Rattle.mdoc_layout.specs.Laying.{Laid, laid, then_laid}
+use Rattle.mdoc_layout.specs.LayingOut.{lay_out}
 use Rattle.mdoc_converter.specs.Lines.{ends_joined}
-use Rattle.mdoc_converter.specs.Macros.{macro_of}
+use Rattle.mdoc_words.specs.Macros.{macro_of}
 use Rattle.mdoc_converter.specs.Reading.{State, preceded, fed, heard_in}
 use Rattle.mdoc_converter.specs.Saying.{parts_of, state_after, text_of, words_of}
 use Rattle.mdoc_converter.specs.WrittenLines.{each, names_no_string, is_text, begins_text, is_plain, heads_words, is_mute, way_of, Word, are_written, is_first, headed, way_headed, line_of, printed_as, opens_block, row_said, Line, AskingLine, are_lines, written_line, written_lines, printed_line}

@@ -2,20 +2,20 @@
 use Rattle.std.specs.Prelude.{ℕ, List, [], ◌∷◌, ◌++◌, Bool, true, false, not, ◌==◌, ◌&&◌, ◌||◌, if◌then◌else◌, codes, Option, None, Some}
 use Rattle.std.specs.Str.{bytes_eq}
 use Prim.Native.Char.{code}
-use Rattle.mdoc_converter.specs.declared.escaping.Escape.{Escape as Reached}
-use Rattle.mdoc_converter.specs.declared.escaping.Escape.TheVariants as escapes
-use Rattle.mdoc_converter.specs.declared.macros.Macro.{Macro}
-use Rattle.mdoc_converter.specs.declared.macros.Macro.TheVariants as macros
-use Rattle.mdoc_converter.specs.declared.page.Block.{Block}
-use Rattle.mdoc_converter.specs.Blocks.{is_diagnosis}
-use Rattle.mdoc_converter.specs.Calls.{called_by, is_item}
-use Rattle.mdoc_converter.specs.Columns.{has_rows}
-use Rattle.mdoc_converter.specs.Escaping.{escape_then}
-use Rattle.mdoc_converter.specs.Keeping.{ends_escape, ends_word, is_title}
-use Rattle.mdoc_converter.specs.Laying.{is_control}
+use Rattle.mdoc_layout.specs.declared.page.Escape.{Escape as Reached}
+use Rattle.mdoc_layout.specs.declared.page.Escape.TheVariants as escapes
+use Rattle.mdoc_layout.specs.declared.macros.Macro.{Macro}
+use Rattle.mdoc_layout.specs.declared.macros.Macro.TheVariants as macros
+use Rattle.mdoc_layout.specs.declared.page.Block.{Block}
+use Rattle.mdoc_layout.specs.Blocks.{is_diagnosis}
+use Rattle.mdoc_words.specs.Calls.{called_by, is_item}
+use Rattle.mdoc_layout.specs.Columns.{has_rows}
+use Rattle.mdoc_words.specs.Escaping.{escape_then}
+use Rattle.mdoc_words.specs.Keeping.{ends_escape, ends_word, is_title}
+use Rattle.mdoc_layout.specs.Laying.{is_control}
 use Rattle.mdoc_converter.specs.Lines.{calls_none}
-use Rattle.mdoc_converter.specs.Macros.{is_callable, macro_of}
-use Rattle.mdoc_converter.specs.Options.{is_heading}
+use Rattle.mdoc_words.specs.Macros.{is_callable, macro_of}
+use Rattle.mdoc_words.specs.Options.{is_heading}
 
 -- ---- text lines
 

@@ -2,9 +2,9 @@
 ghost use Rattle.std.specs.Prelude.{◌≡◌, ◌≤◌, length};
 ghost use Rattle.mdoc_converter.specs.AtHand as specs;
 
-use super::page::{Prefix, Scan};
 use super::pending::Pending;
 use super::reader::Reader;
+use mdoc_layout::{Prefix, Scan};
 
 /// How many bytes come before the first newline.
 fn before_newline(bytes: &[u8]) -> usize

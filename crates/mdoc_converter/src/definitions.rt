@@ -1,11 +1,10 @@
 //! Macros that a page defines: their names are kept, and their lines pass.
 ghost use Rattle.std.specs.Prelude.{◌≡◌, ◌≤◌};
-ghost use Rattle.mdoc_converter.specs.Seeing.{offered};
+ghost use Rattle.mdoc_layout.specs.Seeing.{offered};
 ghost use Rattle.mdoc_converter.specs.Definitions as specs;
 
-use super::acts::Act;
-use super::page::{Dots, Page, Scan};
-use super::seen::Seen;
+use mdoc_layout::{Act, Dots, Page, Scan, Seen};
+use mdoc_words::turns;
 use nr_units::Name;
 
 /// So many bytes of names are kept, two of each.
@@ -36,51 +35,53 @@ fn is_capital(first: u8) -> bool
     matches!(first, b'A'..=b'Z')
 }
 
-impl Page {
-    /// Whether the page has defined the macro whose name is the word.
-    pub(crate) fn is_own(&self) -> bool
-        ensures { result ≡ specs.is_own self.now }
-    {
-        match self.word.as_bytes() {
-            [first, second] => has_name(self.own.as_bytes(), *first, *second),
-            _ => false,
+/// Whether the page has defined the macro whose name is the word.
+pub(crate) fn is_own(page: &Page) -> bool
+    ensures { result ≡ specs.is_own page.now }
+{
+    match page.word.as_bytes() {
+        [first, second] => has_name(page.own.as_bytes(), *first, *second),
+        _ => false,
+    }
+}
+
+/// The word is kept where it may be the name of a macro: two bytes, a capital letter first.
+fn keep_own(page: &mut Page)
+    ensures { page.new ≡ specs.keep_own page.old }
+{
+    let word = page.word;
+    if let [first, second] = word.as_bytes() {
+        let is_new = !has_name(page.own.as_bytes(), *first, *second);
+        if is_capital(*first) && page.own.len() < MOST_OWN && is_new {
+            page.own.push(*first);
+            page.own.push(*second);
         }
     }
+}
 
-    /// The word is kept where it may be the name of a macro: two bytes, a capital letter first.
-    fn keep_own(&mut self)
-        ensures { self.new ≡ specs.keep_own self.old }
-    {
-        let word = self.word;
-        if let [first, second] = word.as_bytes() {
-            let is_new = !has_name(self.own.as_bytes(), *first, *second);
-            if is_capital(*first) && self.own.len() < MOST_OWN && is_new {
-                self.own.push(*first);
-                self.own.push(*second);
-            }
+/// In the line that begins a definition.
+pub(crate) fn in_definition(page: &mut Page, byte: u8) -> Seen
+    ensures { offered page.new result ≡ specs.in_definition byte page.old }
+{
+    match byte {
+        b' ' | b'\t' => {
+            keep_own(page);
+            page.word = Name::new();
+            Seen::taken(Act::Byte(byte))
         }
-    }
-
-    /// In the line that begins a definition.
-    pub(crate) fn in_definition(&mut self, byte: u8) -> Seen
-        ensures { offered self.new result ≡ specs.in_definition byte self.old }
-    {
-        match byte {
-            b' ' | b'\t' => {
-                self.keep_own();
-                self.word = Name::new();
-                Seen::taken(Act::Byte(byte))
+        b'\n' => {
+            keep_own(page);
+            turns(
+                page,
+                Scan::Ignored(Dots::Start),
+                Seen::taken(Act::Byte(byte)),
+            )
+        }
+        _ => {
+            if !page.word.is_full() {
+                page.word.push(byte);
             }
-            b'\n' => {
-                self.keep_own();
-                self.turns(Scan::Ignored(Dots::Start), Seen::taken(Act::Byte(byte)))
-            }
-            _ => {
-                if !self.word.is_full() {
-                    self.word.push(byte);
-                }
-                Seen::taken(Act::Byte(byte))
-            }
+            Seen::taken(Act::Byte(byte))
         }
     }
 }

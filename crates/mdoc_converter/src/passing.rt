@@ -3,9 +3,9 @@ ghost use Rattle.std.specs.Prelude.{◌≡◌, IsTrue};
 ghost use Rattle.mdoc_converter.specs.Passing as specs;
 ghost use Rattle.mdoc_converter.specs.Reading.{converted};
 
-use super::keeping::ends_word;
-use super::page::{Prefix, Scan};
 use super::scan::{given_up, passes_to, prefix_grows};
+use mdoc_layout::{Prefix, Scan};
+use mdoc_words::ends_word;
 
 /// Where a byte leads that goes on no `.Dd`: nowhere, if it ends one.
 fn leads_after(prefix: Prefix, lines: u8, byte: u8) -> Option<Scan>

@@ -3,13 +3,13 @@ ghost use Rattle.std.specs.Prelude.{◌≡◌, ◌+◌, ◌*◌, ◌<◌, ◌≤
 ghost use Rattle.mdoc_converter.specs.Reading as specs;
 ghost use Rattle.mdoc_converter.specs.Reading.{state};
 
-use super::acts::Stack;
 use super::lines::call_of;
-use super::macros::{Font, Macro};
-use super::page::{At, Block, Last, Lay, Page, Parameters, Place, Prefix, Scan, Section, Split};
 use super::pending::Pending;
-use super::scan::before_next;
-use super::seen::Seen;
+use super::scan::{before_next, offer};
+use mdoc_layout::{
+    At, Block, Font, Last, Lay, Macro, Page, Parameters, Place, Prefix, Scan, Section, Seen, Split,
+    Stack,
+};
 use nr_units::Name;
 use nr_vectors::slice_vec::SliceVec;
 
@@ -56,6 +56,54 @@ fn first_place() -> Place
     }
 }
 
+/// A page begins.
+fn first_page() -> Page
+    ensures { result ≡ specs.first_page }
+{
+    Page {
+        scan: Scan::Asleep(Prefix::Nothing, 0),
+        word: Name::new(),
+        marks: Name::new(),
+        held: Name::new(),
+        parts: Name::new(),
+        closers: Name::new(),
+        name: Name::new(),
+        own: Name::new(),
+        title: Name::new(),
+        chapter: Name::new(),
+        month: Name::new(),
+        day: Name::new(),
+        year: Name::new(),
+        lay: first_lay(),
+        call: call_of(Macro::Silent),
+        place: first_place(),
+        block: Block::NONE,
+    }
+}
+
+/// What a step says is laid out.
+#[tactic(auto, unfolding(crate::specs::Reading::said))]
+fn say(page: &mut Page, seen: Seen, out: &mut SliceVec<'_, u8>)
+    requires { length out.old.items + 768 ≤ out.old.capacity }
+    ensures page { page.new ≡ (specs.said seen page.old).page }
+    ensures items { out.new.items ≡ out.old.items ++ (specs.said seen page.old).bytes }
+    ensures few { length out.new.items ≤ length out.old.items + 768 }
+    ensures room { out.new.capacity ≡ out.old.capacity }
+{
+    page.lay_out(seen.first, out);
+    page.lay_out(seen.second, out);
+    page.lay_out(seen.third, out);
+}
+
+/// A list or a display within too many is none.
+fn refuses(page: &mut Page, outer: Block)
+    ensures { page.new ≡ specs.refused outer page.old }
+{
+    page.block = outer;
+    page.call.line = Macro::Silent;
+    page.call.taker = Macro::Silent;
+}
+
 /// What is half read of an input.
 #[derive(Clone, Copy)]
 pub(crate) struct Reader {
@@ -71,13 +119,13 @@ impl Reader {
         ensures { result ≡ specs.first_reader }
     {
         Reader {
-            page: Page::new(),
+            page: first_page(),
             pending: Pending::Nothing,
         }
     }
 
     /// A byte is offered once. Tells whether it was taken. Most bytes only go on a text line.
-    #[tactic(auto, unfolding(crate::specs::Reading::once, crate::specs::Reading::said, crate::specs::LayingOut::lay_out, crate::specs::Scanning::offer))]
+    #[tactic(auto, unfolding(crate::specs::Reading::once, crate::specs::Reading::said, mdoc_layout::specs::LayingOut::lay_out, crate::specs::Scanning::offer))]
     fn hear_once(
         &mut self,
         byte: u8,
@@ -103,8 +151,8 @@ impl Reader {
             }
         }
         let outer = self.page.block;
-        let seen = self.page.offer(byte);
-        self.page.say(seen, out);
+        let seen = offer(&mut self.page, byte);
+        say(&mut self.page, seen, out);
         self.stack(seen.stack, outer, blocks);
         seen.takes
     }
@@ -122,7 +170,7 @@ impl Reader {
                 if blocks.len() < MOST_BLOCKS {
                     blocks.push(outer);
                 } else {
-                    self.page.refuses(outer);
+                    refuses(&mut self.page, outer);
                 }
             }
             Stack::Closes => {
@@ -210,55 +258,5 @@ impl Reader {
         let steps = self.hear(b'\n', blocks, out);
         self.page.freshen(out);
         steps
-    }
-}
-
-impl Page {
-    /// A page begins.
-    fn new() -> Page
-        ensures { result ≡ specs.first_page }
-    {
-        Page {
-            scan: Scan::Asleep(Prefix::Nothing, 0),
-            word: Name::new(),
-            marks: Name::new(),
-            held: Name::new(),
-            parts: Name::new(),
-            closers: Name::new(),
-            name: Name::new(),
-            own: Name::new(),
-            title: Name::new(),
-            chapter: Name::new(),
-            month: Name::new(),
-            day: Name::new(),
-            year: Name::new(),
-            lay: first_lay(),
-            call: call_of(Macro::Silent),
-            place: first_place(),
-            block: Block::NONE,
-        }
-    }
-
-    /// What a step says is laid out.
-    #[tactic(auto, unfolding(crate::specs::Reading::said))]
-    fn say(&mut self, seen: Seen, out: &mut SliceVec<'_, u8>)
-        requires { length out.old.items + 768 ≤ out.old.capacity }
-        ensures page { self.new ≡ (specs.said seen self.old).page }
-        ensures items { out.new.items ≡ out.old.items ++ (specs.said seen self.old).bytes }
-        ensures few { length out.new.items ≤ length out.old.items + 768 }
-        ensures room { out.new.capacity ≡ out.old.capacity }
-    {
-        self.lay_out(seen.first, out);
-        self.lay_out(seen.second, out);
-        self.lay_out(seen.third, out);
-    }
-
-    /// A list or a display within too many is none.
-    fn refuses(&mut self, outer: Block)
-        ensures { self.new ≡ specs.refused outer self.old }
-    {
-        self.block = outer;
-        self.call.line = Macro::Silent;
-        self.call.taker = Macro::Silent;
     }
 }

@@ -6,9 +6,9 @@ ghost use Rattle.mdoc_converter.specs.Reading.{converted, first_state};
 ghost use Rattle.mdoc_converter.specs.Running.{Ran};
 ghost use Rattle.mdoc_converter.specs.Staged.{said, steps_said};
 
-use super::page::Block;
 use super::staged::MdocConverter;
 use document_stages::{RunEnd, run};
+use mdoc_layout::Block;
 use nr_units::sink::Sink;
 use nr_units::source::Source;
 

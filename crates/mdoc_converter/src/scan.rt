@@ -1,15 +1,18 @@
 //! A byte is offered to what is half read.
 ghost use Rattle.std.specs.Prelude.{◌≡◌};
-ghost use Rattle.mdoc_converter.specs.Seeing.{offered};
+ghost use Rattle.mdoc_layout.specs.Seeing.{offered};
 ghost use Rattle.mdoc_converter.specs.Scanning as specs;
 
-use super::acts::{Act, Request, Text};
-use super::escaping::{Escape, escape_then};
-use super::keeping::ends_word;
-use super::lines::call_of;
-use super::macros::Macro;
-use super::page::{Before, Dots, Last, Page, Parameters, Prefix, Scan};
-use super::seen::Seen;
+use super::definitions::in_definition;
+use super::lines::{call_of, ends, named_line};
+use super::rows::in_table;
+use mdoc_layout::{
+    Act, Before, Dots, Escape, Last, Macro, Page, Parameters, Prefix, Request, Scan, Seen, Text,
+};
+use mdoc_words::{
+    closing, ends_word, escape_then, given, goes_on, in_escape, in_name_of, in_quotes, in_word,
+    long, tab, turns, word_begins,
+};
 use nr_units::Name;
 
 /// So many lines are looked at for `.Dd`, besides those that are empty or comments.
@@ -113,286 +116,292 @@ fn after_ignored(dots: Dots) -> Scan
     }
 }
 
-impl Page {
-    /// At the beginning of a line.
-    fn at_start(&mut self, byte: u8) -> Seen
-        ensures { offered self.new result ≡ specs.at_start byte self.old }
-    {
-        if byte == b'.' || byte == b'\'' {
-            return self.turns(Scan::Control, Seen::taken(Act::Nothing));
-        }
-        if byte == b'\n' {
-            return self.empty_line();
-        }
-        if self.block.has_rows() {
-            return self.turns(Scan::Cell, Seen::left(Act::Row));
-        }
-        if (byte == b' ' || byte == b'\t') && !self.lay.literal {
-            return Seen::taken(Act::Nothing);
-        }
-        self.text_begins(byte)
+/// At the beginning of a line.
+fn at_start(page: &mut Page, byte: u8) -> Seen
+    ensures { offered page.new result ≡ specs.at_start byte page.old }
+{
+    if byte == b'.' || byte == b'\'' {
+        return turns(page, Scan::Control, Seen::taken(Act::Nothing));
     }
-
-    /// Text begins.
-    fn text_begins(&mut self, byte: u8) -> Seen
-        ensures { offered self.new result ≡ specs.text_begins byte self.old }
-    {
-        self.place.last = Last::Heading;
-        self.turns(
-            Scan::Text(first_before(byte)),
-            Seen::taken(Act::Begin(byte)),
-        )
+    if byte == b'\n' {
+        return empty_line(page);
     }
-
-    /// Where a cell of a row of text may begin.
-    fn in_cell(&mut self, byte: u8) -> Seen
-        ensures { offered self.new result ≡ specs.in_cell byte self.old }
-    {
-        match byte {
-            b'\n' => self.turns(Scan::Start, Seen::taken(Act::Ends)),
-            b'\t' => Seen::taken(Act::Cell),
-            b' ' => Seen::taken(Act::Nothing),
-            _ => self.text_begins(byte),
-        }
+    if page.block.has_rows() {
+        return turns(page, Scan::Cell, Seen::left(Act::Row));
     }
-
-    /// An empty line.
-    fn empty_line(&self) -> Seen
-        ensures { result ≡ specs.empty_line self.now }
-    {
-        if self.lay.literal {
-            return Seen::two(Act::Text(Text::Empty), Act::Ends).and_taken();
-        }
-        Seen::taken(Act::Space)
+    if (byte == b' ' || byte == b'\t') && !page.lay.literal {
+        return Seen::taken(Act::Nothing);
     }
+    text_begins(page, byte)
+}
 
-    /// In a text line, after such a byte.
-    fn in_text(&mut self, before: Before, byte: u8) -> Seen
-        ensures { offered self.new result ≡ specs.in_text before byte self.old }
-    {
-        if byte == b'\n' {
-            return self.turns(Scan::Start, Seen::taken(Act::Ends));
-        }
-        if byte == b'-' {
-            return self.hyphen_in_text(before);
-        }
-        if byte == b'\t' && self.block.has_rows() {
-            return self.turns(Scan::Cell, Seen::taken(Act::Cell));
-        }
-        self.turns(
-            Scan::Text(before_next(before, byte)),
-            Seen::taken(Act::Byte(byte)),
-        )
+/// Text begins.
+fn text_begins(page: &mut Page, byte: u8) -> Seen
+    ensures { offered page.new result ≡ specs.text_begins byte page.old }
+{
+    page.place.last = Last::Heading;
+    turns(
+        page,
+        Scan::Text(first_before(byte)),
+        Seen::taken(Act::Begin(byte)),
+    )
+}
+
+/// Where a cell of a row of text may begin.
+fn in_cell(page: &mut Page, byte: u8) -> Seen
+    ensures { offered page.new result ≡ specs.in_cell byte page.old }
+{
+    match byte {
+        b'\n' => turns(page, Scan::Start, Seen::taken(Act::Ends)),
+        b'\t' => Seen::taken(Act::Cell),
+        b' ' => Seen::taken(Act::Nothing),
+        _ => text_begins(page, byte),
     }
+}
 
-    /// A hyphen in a text line: after a letter it is held back, since a line may be broken after it before another; in an escape it
-    /// stays.
-    fn hyphen_in_text(&mut self, before: Before) -> Seen
-        ensures { offered self.new result ≡ specs.hyphen_in_text before self.old }
-    {
-        match before {
-            Before::Letter => self.turns(Scan::Hyphen, Seen::taken(Act::Nothing)),
-            Before::Within(_) => self.turns(
-                Scan::Text(before_next(before, b'-')),
-                Seen::taken(Act::Byte(b'-')),
-            ),
-            Before::Other => self.turns(Scan::Text(Before::Other), Seen::taken(Act::Hyphen)),
-        }
+/// An empty line.
+fn empty_line(page: &Page) -> Seen
+    ensures { result ≡ specs.empty_line page.now }
+{
+    if page.lay.literal {
+        return Seen::two(Act::Text(Text::Empty), Act::Ends).and_taken();
     }
+    Seen::taken(Act::Space)
+}
 
-    /// After a hyphen that was held back.
-    fn after_hyphen(&mut self, byte: u8) -> Seen
-        ensures { offered self.new result ≡ specs.after_hyphen byte self.old }
-    {
-        let act = if is_letter(byte) {
-            Act::Byte(b'-')
-        } else {
-            Act::Hyphen
-        };
-        self.turns(Scan::Text(Before::Other), Seen::left(act))
+/// In a text line, after such a byte.
+fn in_text(page: &mut Page, before: Before, byte: u8) -> Seen
+    ensures { offered page.new result ≡ specs.in_text before byte page.old }
+{
+    if byte == b'\n' {
+        return turns(page, Scan::Start, Seen::taken(Act::Ends));
     }
-
-    /// After the control character.
-    fn after_control(&mut self, byte: u8) -> Seen
-        ensures { offered self.new result ≡ specs.after_control byte self.old }
-    {
-        match byte {
-            b' ' | b'\t' => Seen::taken(Act::Nothing),
-            b'\n' => self.turns(Scan::Start, Seen::taken(Act::Nothing)),
-            b'\\' => self.turns(Scan::ControlEscape, Seen::taken(Act::Nothing)),
-            _ => self.name_begins(byte),
-        }
+    if byte == b'-' {
+        return hyphen_in_text(page, before);
     }
-
-    /// A name begins.
-    fn name_begins(&mut self, byte: u8) -> Seen
-        ensures { offered self.new result ≡ specs.name_begins byte self.old }
-    {
-        self.word = Name::of(&[byte]);
-        self.turns(Scan::Name, Seen::taken(Act::Nothing))
+    if byte == b'\t' && page.block.has_rows() {
+        return turns(page, Scan::Cell, Seen::taken(Act::Cell));
     }
+    turns(
+        page,
+        Scan::Text(before_next(before, byte)),
+        Seen::taken(Act::Byte(byte)),
+    )
+}
 
-    /// After the control character and a backslash: a comment, or a line that passes.
-    fn after_escape(&mut self, byte: u8) -> Seen
-        ensures { offered self.new result ≡ specs.after_escape byte self.old }
-    {
-        if byte == b'"' || byte == b'#' {
-            return self.turns(Scan::Comment, Seen::taken(Act::Nothing));
-        }
-        self.word = Name::of(&[b'\\']);
-        self.turns(Scan::Rest, Seen::left(Act::Control))
+/// A hyphen in a text line: after a letter it is held back, since a line may be broken after it before another; in an escape it
+/// stays.
+fn hyphen_in_text(page: &mut Page, before: Before) -> Seen
+    ensures { offered page.new result ≡ specs.hyphen_in_text before page.old }
+{
+    match before {
+        Before::Letter => turns(page, Scan::Hyphen, Seen::taken(Act::Nothing)),
+        Before::Within(_) => turns(
+            page,
+            Scan::Text(before_next(before, b'-')),
+            Seen::taken(Act::Byte(b'-')),
+        ),
+        Before::Other => turns(page, Scan::Text(Before::Other), Seen::taken(Act::Hyphen)),
     }
+}
 
-    /// In a comment.
-    fn in_comment(&mut self, byte: u8) -> Seen
-        ensures { offered self.new result ≡ specs.in_comment byte self.old }
-    {
-        let scan = if byte == b'\n' {
-            Scan::Start
-        } else {
-            Scan::Comment
-        };
-        self.turns(scan, Seen::taken(Act::Nothing))
+/// After a hyphen that was held back.
+fn after_hyphen(page: &mut Page, byte: u8) -> Seen
+    ensures { offered page.new result ≡ specs.after_hyphen byte page.old }
+{
+    let act = if is_letter(byte) {
+        Act::Byte(b'-')
+    } else {
+        Act::Hyphen
+    };
+    turns(page, Scan::Text(Before::Other), Seen::left(act))
+}
+
+/// After the control character.
+fn after_control(page: &mut Page, byte: u8) -> Seen
+    ensures { offered page.new result ≡ specs.after_control byte page.old }
+{
+    match byte {
+        b' ' | b'\t' => Seen::taken(Act::Nothing),
+        b'\n' => turns(page, Scan::Start, Seen::taken(Act::Nothing)),
+        b'\\' => turns(page, Scan::ControlEscape, Seen::taken(Act::Nothing)),
+        _ => name_begins(page, byte),
     }
+}
 
-    /// In the name of a control line.
-    fn in_name(&mut self, byte: u8) -> Seen
-        ensures { offered self.new result ≡ specs.in_name byte self.old }
-    {
-        if ends_word(byte) || byte == b'\\' || self.word.is_full() {
-            return self.named_line();
-        }
-        self.word.push(byte);
-        Seen::taken(Act::Nothing)
+/// A name begins.
+fn name_begins(page: &mut Page, byte: u8) -> Seen
+    ensures { offered page.new result ≡ specs.name_begins byte page.old }
+{
+    page.word = Name::of(&[byte]);
+    turns(page, Scan::Name, Seen::taken(Act::Nothing))
+}
+
+/// After the control character and a backslash: a comment, or a line that passes.
+fn after_escape(page: &mut Page, byte: u8) -> Seen
+    ensures { offered page.new result ≡ specs.after_escape byte page.old }
+{
+    if byte == b'"' || byte == b'#' {
+        return turns(page, Scan::Comment, Seen::taken(Act::Nothing));
     }
+    page.word = Name::of(&[b'\\']);
+    turns(page, Scan::Rest, Seen::left(Act::Control))
+}
 
-    /// Between words.
-    fn between(&mut self, byte: u8) -> Seen
-        ensures { offered self.new result ≡ specs.between byte self.old }
-    {
-        if self.call.comment {
-            return self.turns(Scan::Dropped, Seen::left(Act::Nothing));
-        }
-        match byte {
-            b' ' => Seen::taken(Act::Nothing),
-            b'\t' => self.tab(),
-            b'\n' => self.turns(Scan::Ends, Seen::left(Act::Nothing)),
-            b'"' => self.word_begins(Scan::Quoted, Seen::taken(Act::Nothing)),
-            _ => self.word_begins(Scan::Word, Seen::left(Act::Nothing)),
-        }
+/// In a comment.
+fn in_comment(page: &mut Page, byte: u8) -> Seen
+    ensures { offered page.new result ≡ specs.in_comment byte page.old }
+{
+    let scan = if byte == b'\n' {
+        Scan::Start
+    } else {
+        Scan::Comment
+    };
+    turns(page, scan, Seen::taken(Act::Nothing))
+}
+
+/// In the name of a control line.
+fn in_name(page: &mut Page, byte: u8) -> Seen
+    ensures { offered page.new result ≡ specs.in_name byte page.old }
+{
+    if ends_word(byte) || byte == b'\\' || page.word.is_full() {
+        return named_line(page);
     }
+    page.word.push(byte);
+    Seen::taken(Act::Nothing)
+}
 
-    /// The rest of the line passes.
-    fn in_rest(&mut self, byte: u8) -> Seen
-        ensures { offered self.new result ≡ specs.in_rest byte self.old }
-    {
-        let scan = if byte == b'\n' {
-            Scan::Start
-        } else {
-            Scan::Rest
-        };
-        self.turns(scan, Seen::taken(Act::Byte(byte)))
+/// Between words.
+fn between(page: &mut Page, byte: u8) -> Seen
+    ensures { offered page.new result ≡ specs.between byte page.old }
+{
+    if page.call.comment {
+        return turns(page, Scan::Dropped, Seen::left(Act::Nothing));
     }
-
-    /// The rest of the line is dropped.
-    fn dropped(&mut self, byte: u8) -> Seen
-        ensures { offered self.new result ≡ specs.dropped byte self.old }
-    {
-        if byte == b'\n' {
-            return self.turns(Scan::Ends, Seen::left(Act::Nothing));
-        }
-        Seen::taken(Act::Nothing)
+    match byte {
+        b' ' => Seen::taken(Act::Nothing),
+        b'\t' => tab(page),
+        b'\n' => turns(page, Scan::Ends, Seen::left(Act::Nothing)),
+        b'"' => word_begins(page, Scan::Quoted, Seen::taken(Act::Nothing)),
+        _ => word_begins(page, Scan::Word, Seen::left(Act::Nothing)),
     }
+}
 
-    /// Lines pass, up to one that begins with two dots.
-    fn ignored(&mut self, dots: Dots, byte: u8) -> Seen
-        ensures { offered self.new result ≡ specs.ignored dots byte self.old }
-    {
-        let scan = if byte == b'\n' {
-            after_ignored(dots)
-        } else {
-            Scan::Ignored(dots_then(dots, byte))
-        };
-        self.turns(scan, Seen::taken(Act::Byte(byte)))
+/// The rest of the line passes.
+fn in_rest(page: &mut Page, byte: u8) -> Seen
+    ensures { offered page.new result ≡ specs.in_rest byte page.old }
+{
+    let scan = if byte == b'\n' {
+        Scan::Start
+    } else {
+        Scan::Rest
+    };
+    turns(page, scan, Seen::taken(Act::Byte(byte)))
+}
+
+/// The rest of the line is dropped.
+fn dropped(page: &mut Page, byte: u8) -> Seen
+    ensures { offered page.new result ≡ specs.dropped byte page.old }
+{
+    if byte == b'\n' {
+        return turns(page, Scan::Ends, Seen::left(Act::Nothing));
     }
+    Seen::taken(Act::Nothing)
+}
 
-    /// Before a page is known to be one of mdoc.
-    fn asleep(&mut self, prefix: Prefix, lines: u8, byte: u8) -> Seen
-        ensures { offered self.new result ≡ specs.asleep prefix lines byte self.old }
-    {
-        if let Some(more) = prefix_grows(prefix, byte) {
-            return self.turns(Scan::Asleep(more, lines), Seen::taken(Act::Nothing));
-        }
-        match prefix {
-            Prefix::Whole if ends_word(byte) => self.wakes(),
-            Prefix::Dot | Prefix::Half | Prefix::Whole => self.turns(
-                Scan::Asleep(given_up(prefix), lines),
-                Seen::left(Act::Prefix(prefix)),
-            ),
-            _ => self.passes(prefix, lines, byte),
-        }
+/// Lines pass, up to one that begins with two dots.
+fn ignored(page: &mut Page, dots: Dots, byte: u8) -> Seen
+    ensures { offered page.new result ≡ specs.ignored dots byte page.old }
+{
+    let scan = if byte == b'\n' {
+        after_ignored(dots)
+    } else {
+        Scan::Ignored(dots_then(dots, byte))
+    };
+    turns(page, scan, Seen::taken(Act::Byte(byte)))
+}
+
+/// Before a page is known to be one of mdoc.
+fn asleep(page: &mut Page, prefix: Prefix, lines: u8, byte: u8) -> Seen
+    ensures { offered page.new result ≡ specs.asleep prefix lines byte page.old }
+{
+    if let Some(more) = prefix_grows(prefix, byte) {
+        return turns(page, Scan::Asleep(more, lines), Seen::taken(Act::Nothing));
     }
-
-    /// The page is one of mdoc: the macro that ends tags is defined.
-    fn wakes(&mut self) -> Seen
-        ensures { offered self.new result ≡ specs.wakes self.old }
-    {
-        self.call = call_of(Macro::Date);
-        let defines = Seen::left(Act::Request(Request::TagMacro));
-        self.turns(Scan::Between, defines)
+    match prefix {
+        Prefix::Whole if ends_word(byte) => wakes(page),
+        Prefix::Dot | Prefix::Half | Prefix::Whole => turns(
+            page,
+            Scan::Asleep(given_up(prefix), lines),
+            Seen::left(Act::Prefix(prefix)),
+        ),
+        _ => passes(page, prefix, lines, byte),
     }
+}
 
-    /// A byte passes.
-    fn passes(&mut self, prefix: Prefix, lines: u8, byte: u8) -> Seen
-        ensures { offered self.new result ≡ specs.passes prefix lines byte self.old }
-    {
-        self.turns(passes_to(prefix, lines, byte), Seen::taken(Act::Byte(byte)))
+/// The page is one of mdoc: the macro that ends tags is defined.
+fn wakes(page: &mut Page) -> Seen
+    ensures { offered page.new result ≡ specs.wakes page.old }
+{
+    page.call = call_of(Macro::Date);
+    let defines = Seen::left(Act::Request(Request::TagMacro));
+    turns(page, Scan::Between, defines)
+}
+
+/// A byte passes.
+fn passes(page: &mut Page, prefix: Prefix, lines: u8, byte: u8) -> Seen
+    ensures { offered page.new result ≡ specs.passes prefix lines byte page.old }
+{
+    turns(
+        page,
+        passes_to(prefix, lines, byte),
+        Seen::taken(Act::Byte(byte)),
+    )
+}
+
+/// What a byte does.
+#[inline(always)]
+#[tactic(auto, unfolding(crate::specs::Scanning::offer))]
+pub(crate) fn offer(page: &mut Page, byte: u8) -> Seen
+    ensures { offered page.new result ≡ specs.offer byte page.old }
+{
+    match page.scan {
+        Scan::Asleep(prefix, lines) => asleep(page, prefix, lines, byte),
+        Scan::Start => at_start(page, byte),
+        Scan::Text(before) => in_text(page, before, byte),
+        Scan::Hyphen => after_hyphen(page, byte),
+        Scan::Cell => in_cell(page, byte),
+        Scan::Control => after_control(page, byte),
+        Scan::ControlEscape => after_escape(page, byte),
+        Scan::Comment => in_comment(page, byte),
+        Scan::Name => in_name(page, byte),
+        Scan::Between => between(page, byte),
+        Scan::Word => in_word(page, byte),
+        Scan::Quoted => in_quotes(page, byte),
+        Scan::Escape => in_escape(page, byte, false),
+        Scan::QuotedEscape => in_escape(page, byte, true),
+        Scan::Closing => closing(page, byte),
+        Scan::Named(escape, quoted) => in_name_of(page, escape, quoted, byte),
+        _ => offer_whole(page, byte),
     }
+}
 
-    /// What a byte does.
-    #[inline(always)]
-    #[tactic(auto, unfolding(crate::specs::Scanning::offer))]
-    pub(crate) fn offer(&mut self, byte: u8) -> Seen
-        ensures { offered self.new result ≡ specs.offer byte self.old }
-    {
-        match self.scan {
-            Scan::Asleep(prefix, lines) => self.asleep(prefix, lines, byte),
-            Scan::Start => self.at_start(byte),
-            Scan::Text(before) => self.in_text(before, byte),
-            Scan::Hyphen => self.after_hyphen(byte),
-            Scan::Cell => self.in_cell(byte),
-            Scan::Control => self.after_control(byte),
-            Scan::ControlEscape => self.after_escape(byte),
-            Scan::Comment => self.in_comment(byte),
-            Scan::Name => self.in_name(byte),
-            Scan::Between => self.between(byte),
-            Scan::Word => self.in_word(byte),
-            Scan::Quoted => self.in_quotes(byte),
-            Scan::Escape => self.in_escape(byte, false),
-            Scan::QuotedEscape => self.in_escape(byte, true),
-            Scan::Closing => self.closing(byte),
-            Scan::Named(escape, quoted) => self.in_name_of(escape, quoted, byte),
-            _ => self.offer_whole(byte),
-        }
-    }
-
-    /// What it does where a word is whole, or a line ends or passes.
-    #[tactic(auto, unfolding(crate::specs::Scanning::offer_whole))]
-    fn offer_whole(&mut self, byte: u8) -> Seen
-        ensures { offered self.new result ≡ specs.offer_whole byte self.old }
-    {
-        match self.scan {
-            Scan::Given(quoted) => self.given(quoted),
-            Scan::Long(inside) => self.long(inside),
-            Scan::Goes(inside) => self.goes_on(inside),
-            Scan::Rest => self.in_rest(byte),
-            Scan::Passes => Seen::taken(Act::Byte(byte)),
-            Scan::Dropped => self.dropped(byte),
-            Scan::Defines => self.in_definition(byte),
-            Scan::Ignored(dots) => self.ignored(dots, byte),
-            Scan::Table(row) => self.in_table(row, byte),
-            _ => self.ends(),
-        }
+/// What it does where a word is whole, or a line ends or passes.
+#[tactic(auto, unfolding(crate::specs::Scanning::offer_whole))]
+fn offer_whole(page: &mut Page, byte: u8) -> Seen
+    ensures { offered page.new result ≡ specs.offer_whole byte page.old }
+{
+    match page.scan {
+        Scan::Given(quoted) => given(page, quoted),
+        Scan::Long(inside) => long(page, inside),
+        Scan::Goes(inside) => goes_on(page, inside),
+        Scan::Rest => in_rest(page, byte),
+        Scan::Passes => Seen::taken(Act::Byte(byte)),
+        Scan::Dropped => dropped(page, byte),
+        Scan::Defines => in_definition(page, byte),
+        Scan::Ignored(dots) => ignored(page, dots, byte),
+        Scan::Table(row) => in_table(page, row, byte),
+        _ => ends(page),
     }
 }
 

@@ -2,9 +2,9 @@
 ghost use Rattle.std.specs.Prelude.{◌≡◌, ◌+◌, ◌*◌, ◌++◌, ◌<◌, ◌≤◌, [], false, length, take};
 ghost use Rattle.mdoc_converter.specs.Reading.{fed, first_state, state};
 
-use super::page::Block;
 use super::reader::Reader;
 use document_stages::{LEAST_ROOM, Stage};
+use mdoc_layout::Block;
 use nr_vectors::slice_vec::SliceVec;
 
 /// A page of mdoc(7) becomes one of man(7), and another page stays as it is, as with `convert`.

@@ -4,11 +4,10 @@ ghost use Rattle.mdoc_converter.specs.Reading as specs;
 ghost use Rattle.mdoc_converter.specs.Reading.{state};
 ghost use Rattle.mdoc_converter.specs.Strings as strings;
 
-use super::macros::looked_up;
-use super::page::{Block, RowPart, Scan};
 use super::pending::Pending;
 use super::reader::Reader;
-use super::texts::prefix_of;
+use mdoc_layout::{Block, RowPart, Scan, prefix_of};
+use mdoc_words::looked_up;
 use nr_vectors::slice_vec::SliceVec;
 
 /// What a byte does to that.

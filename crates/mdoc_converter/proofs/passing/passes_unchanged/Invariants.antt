@@ -1,6 +1,6 @@
 use Rattle.std.proofs.Common.{◌≡◌, drop, Some}
-use Rattle.mdoc_converter.specs.declared.page.Prefix.TheVariants as prefixes
-use Rattle.mdoc_converter.specs.declared.page.Scan.TheVariants as scans
+use Rattle.mdoc_layout.specs.declared.page.Prefix.TheVariants as prefixes
+use Rattle.mdoc_layout.specs.declared.page.Scan.TheVariants as scans
 use Rattle.mdoc_converter.specs.Passing.{leads_on}
 use Rattle.mdoc_converter.proofs.passing.passes_unchanged.Given as goal
 

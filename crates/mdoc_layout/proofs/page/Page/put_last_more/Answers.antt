@@ -1,0 +1,18 @@
+use Rattle.std.proofs.Common.{arith}
+use Rattle.std.proofs.lemmas.Grind.{common_steps}
+use Rattle.mdoc_layout.proofs.page.Page.put_last_more.Goals as goal
+
+pub extend-requires-2 : goal.extend-requires-2
+extend-requires-2 c = grind (arith, common_steps)
+
+pub extend-requires-3 : goal.extend-requires-3
+extend-requires-3 c = grind (arith, common_steps)
+
+pub extend-requires-4 : goal.extend-requires-4
+extend-requires-4 c = grind (arith, common_steps)
+
+pub returns-clause-items : goal.returns-clause-items
+returns-clause-items c = grind (arith, common_steps)
+
+pub returns-clause-few : goal.returns-clause-few
+returns-clause-few c = grind (arith, common_steps)

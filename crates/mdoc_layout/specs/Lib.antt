@@ -1,0 +1,11 @@
+pub mod Blocks
+pub mod Columns
+pub mod Dates
+pub mod Laying
+pub mod LayingOut
+pub mod Lengths
+pub mod Lookup
+pub mod OwnLines
+pub mod References
+pub mod Seeing
+pub mod Texts
