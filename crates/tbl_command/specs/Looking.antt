@@ -16,10 +16,10 @@ bounds_for job = bounds_of (signs_of None) job
 
 -- all that is wrong with them, in their order, and whether one goes out in parts
 abbrev pub all_wrong : Bounds → List ℕ → List Complaint
-all_wrong b page = wrongs (page_said b.limits b.cells page) (page_setting b)
+all_wrong b page = wrongs (page_said b.limits page) (page_setting b)
 
 abbrev pub goes_in_parts : Bounds → List ℕ → Bool
-goes_in_parts b page = (set (page_said b.limits b.cells page) (page_setting b)).layout.uneven
+goes_in_parts b page = (set (page_said b.limits page) (page_setting b)).layout.uneven
 
 -- the first 64 complaints are kept, and it is known whether there are more, and whether a table goes out in parts
 pub record AreReportedOf (job : Job) (page : List ℕ) (tables : Tables) : Type 0 where

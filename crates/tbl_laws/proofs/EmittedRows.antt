@@ -101,7 +101,7 @@ said (tells.Mark (marks.Repeat b)) text h = never h
 said (tells.Mark marks.Above) text h = never h
 said tells.Row text h = record { rows = refl; count_is = refl; bytes = refl; none = λ e. refl }
 said (tells.Wrong c) text h = record { rows = refl; count_is = refl; bytes = refl; none = λ e. refl }
-said tells.Table text h = never h
+said (tells.Table line) text h = never h
 said (tells.Options o) text h = never h
 said tells.Formats text h = never h
 said (tells.Format c) text h = never h

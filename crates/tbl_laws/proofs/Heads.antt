@@ -17,8 +17,7 @@ use Rattle.tbl_reader.specs.Commands.{is_command}
 use Rattle.tbl_reader.specs.Ending.{first_page}
 use Rattle.tbl_reader.specs.Fields.{one_later}
 use Rattle.tbl_reader.specs.Formats.{first_formats, read}
-use Rattle.tbl_reader.specs.HeadLines.{formats_after, formats_ended, formats_judged, formats_line, formats_said, formats_taken, given_up_line, head_ended, head_line, measured_with, options_line, options_split, widths_in, wrong_in}
-use Rattle.tbl_reader.specs.Measure.{is_wider}
+use Rattle.tbl_reader.specs.HeadLines.{formats_after, formats_ended, formats_judged, formats_line, formats_said, formats_taken, given_up_line, head_ended, head_line, options_line, options_split, wrong_in}
 use Rattle.tbl_reader.specs.States.{wrong_kind}
 use Rattle.tbl_reader.specs.Heads.{dotted_after, is_blank, options_end_in}
 use Rattle.tbl_reader.specs.Pages.{Page, Effect, effect, and_then, at_mode, line_counted, rest_of, with_state}
@@ -136,29 +135,22 @@ no_end [] h some = absurd (omega (arith, some))
 no_end (b ∷ bs) h some =
     no_command (code "E") (b ∷ (bs ++ codes ".")) (ap not (not_that (code ".") b refl refl refl refl (both_first _ _ h)))
 
--- formats that were read are right, or surely too wide
+-- formats that were read are right
+none_wrong : (n : ℕ) (p : Page) → p.state.formats.lines ≡ 0 → wrong_in (ended n) p ≡ None
+unfolding ended
+none_wrong n p lines =
+    let some : (suc n == 0) ≡ false = grind (arith, nat_tests) in
+    ap (λ (t : Bool). if t then Some kinds.NoFormat else wrong_kind None (1 == p.state.formats.lines)) some
+    ∙ ap (λ (k : ℕ). wrong_kind None (1 == k)) lines
+
 pub judged : (sep n : ℕ) (f : Formats) (p : Page) → separates sep ≡ true → f ≡ ended n → p.state.formats.lines ≡ 0 → p.state.options.tab ≡ sep → p.state.options.nospaces ≡ false → suc n ≤ 64
     → IsBetweenRows sep (suc n) (formats_judged (wrong_in f p) (formats_taken f p)).page
 unfolding ended
 judged sep n f p separated is lines tab blanks few =
-    subst (λ (x : Formats). IsBetweenRows sep (suc n) (formats_judged (wrong_in x p) (formats_taken x p)).page) (sym is) with_these
-  where
-    some : (suc n == 0) ≡ false
-    some = grind (arith, nat_tests)
-
-    wide_is : Bool
-    wide_is = is_wider (measured_with (rest_of p) p.state).measure.sure (measured_with (rest_of p) p.state).options.frame (widths_in p) (measured_with (rest_of p) p.state).measure
-
-    right : wrong_in (ended n) p ≡ (if wide_is then Some kinds.TooWide else None)
-    right = ap (λ (t : Bool). if t then Some kinds.NoFormat else wrong_kind None (1 == p.state.formats.lines) wide_is) some
-        ∙ ap (λ (k : ℕ). wrong_kind None (1 == k) wide_is) lines
-
-    between : (wide : Bool) → IsBetweenRows sep (suc n) (formats_judged (if wide then Some kinds.TooWide else None) (formats_taken (ended n) p)).page
-    between true = record { mode = refl; fields = refl; kept = refl; from = refl; start = refl; tab_is = tab; blanks = blanks; columns_are = refl; separated = separated; few = few }
-    between false = record { mode = refl; fields = refl; kept = refl; from = refl; start = refl; tab_is = tab; blanks = blanks; columns_are = refl; separated = separated; few = few }
-
-    with_these : IsBetweenRows sep (suc n) (formats_judged (wrong_in (ended n) p) (formats_taken (ended n) p)).page
-    with_these = subst (λ (k : Option Kind). IsBetweenRows sep (suc n) (formats_judged k (formats_taken (ended n) p)).page) (sym right) (between wide_is)
+    let between : IsBetweenRows sep (suc n) (formats_judged None (formats_taken (ended n) p)).page =
+    record { mode = refl; fields = refl; kept = refl; from = refl; start = refl; tab_is = tab; blanks = blanks; columns_are = refl; separated = separated; few = few } in
+    subst (λ (x : Formats). IsBetweenRows sep (suc n) (formats_judged (wrong_in x p) (formats_taken x p)).page) (sym is)
+    (subst (λ (k : Option Kind). IsBetweenRows sep (suc n) (formats_judged k (formats_taken (ended n) p)).page) (sym (none_wrong n p lines)) between)
 
 -- the page after the line of `.TS`, and with a line of formats
 unfoldable pub begun : Page → Page
@@ -222,36 +214,14 @@ read_with (suc n) bytes p outside h is some few room =
     subst (λ (m : Mode). IsBetweenRows (code "\t") (suc n) (fed (table_with bytes) (at_mode m p)).page) (sym outside)
     (subst (IsBetweenRows (code "\t") (suc n)) (sym (table_read p bytes h room)) (head_is p bytes n h is few))
 
--- what is emitted of the line of `.TS`, and of the line of formats: what they say, and what may be wrong with them
-unfoldable pub IsWrong : List Piece → Type 0
-IsWrong ps = (ps ≡ []) ⊎ ((c : Complaint) × (ps ≡ piece (tells.Wrong c) [] ∷ []))
-
-abbrev pub head_pieces : List ℕ → List Piece → List Piece
-head_pieces bytes wrongs =
-    each tells.Pass (codes ".TS\n") ++ piece tells.Table [] ∷ []
-    ++ (formats_said (first_formats 0 0 false) ((bytes ++ codes ".") ++ codes "\n") ++ piece tells.FormatsEnd [] ∷ [] ++ wrongs)
-
-judged_said : (n : ℕ) (p q : Page) → p.state.formats.lines ≡ 0 → (ps : List Piece) × ((formats_judged (wrong_in (ended n) p) q).pieces ≡ ps) × IsWrong ps
-unfolding ended IsWrong
-judged_said n p q lines = by_kind wide_is right
-  where
-    wide_is : Bool
-    wide_is = is_wider (measured_with (rest_of p) p.state).measure.sure (measured_with (rest_of p) p.state).options.frame (widths_in p) (measured_with (rest_of p) p.state).measure
-
-    some : (suc n == 0) ≡ false
-    some = grind (arith, nat_tests)
-
-    right : wrong_in (ended n) p ≡ (if wide_is then Some kinds.TooWide else None)
-    right = ap (λ (t : Bool). if t then Some kinds.NoFormat else wrong_kind None (1 == p.state.formats.lines) wide_is) some
-        ∙ ap (λ (k : ℕ). wrong_kind None (1 == k) wide_is) lines
-
-    by_kind : (wide : Bool) → wrong_in (ended n) p ≡ (if wide then Some kinds.TooWide else None)
-        → (ps : List Piece) × ((formats_judged (wrong_in (ended n) p) q).pieces ≡ ps) × IsWrong ps
-    by_kind true e = (_, ap (λ (k : Option Kind). (formats_judged k q).pieces) e, inr (_, refl))
-    by_kind false e = (_, ap (λ (k : Option Kind). (formats_judged k q).pieces) e, inl refl)
+-- what is emitted of the line of `.TS`, and of the line of formats
+abbrev pub head_pieces : ℕ → List ℕ → List Piece
+head_pieces line bytes =
+    each tells.Pass (codes ".TS\n") ++ piece (tells.Table line) [] ∷ []
+    ++ (formats_said (first_formats 0 0 false) ((bytes ++ codes ".") ++ codes "\n") ++ piece tells.FormatsEnd [] ∷ [])
 
 pub head_said : (p : Page) (bytes : List ℕ) → IsOutside p → are_columns bytes ≡ true → 0 < columns_in bytes → columns_in bytes ≤ 64 → length bytes < p.limits.formats
-    → (wrongs : List Piece) × ((fed (table_with bytes) p).pieces ≡ head_pieces bytes wrongs) × IsWrong wrongs
+    → (fed (table_with bytes) p).pieces ≡ head_pieces p.state.line bytes
 unfolding begun with_formats optionless
 head_said p bytes outside h some few room = by_count (columns_in bytes) refl some few
   where
@@ -264,39 +234,35 @@ head_said p bytes outside h some few room = by_count (columns_in bytes) refl som
     same : p ≡ at
     same = ap (λ (m : Mode). at_mode m p) outside
 
-    said : (n : ℕ) → columns_in bytes ≡ suc n → suc n ≤ 64 → (wrongs : List Piece) × ((fed (table_with bytes) at).pieces ≡ head_pieces bytes wrongs) × IsWrong wrongs
+    said : (n : ℕ) → columns_in bytes ≡ suc n → suc n ≤ 64 → (fed (table_with bytes) at).pieces ≡ head_pieces p.state.line bytes
     said n is most =
         let long = length-append bytes (codes ".") in
         let fits : 0 + length line ≤ p.limits.formats = omega (arith, long, room) in
         let r = optionless p bytes in
         let said = formats_said (first_formats 0 0 false) (line ++ codes "\n") ++ piece tells.FormatsEnd [] ∷ [] in
         let f = formats_after (first_formats 0 0 false) (line ++ codes "\n") in
-        let (wrongs, judged_is, wrong) = judged_said n r (formats_taken f r) refl in
-        let prefix = each tells.Pass (codes ".TS\n") ++ piece tells.Table [] ∷ [] in (
-          wrongs,
-          ap (λ (xs : List ℕ). (fed xs at).pieces) (append_assoc (codes ".TS\n") line (codes "\n"))
-              ∙ ap (λ (e : Effect). e.pieces) (fed_append (codes ".TS\n") (line ++ codes "\n") at)
-              ∙ ap (λ (e : Effect). prefix ++ e.pieces) (lines_are_read line (begun p) refl (one_line bytes h) fits)
-              ∙ ap (λ (e : Effect). prefix ++ (e.pieces ++ [])) (head_read p bytes h some)
-              ∙ ap (λ (l : List Piece). prefix ++ l) (append-nil (formats_ended r).pieces)
-              ∙ ap (λ (g : Formats). prefix ++ (said ++ (formats_judged (wrong_in g r) (formats_taken f r)).pieces)) (formats_end bytes n h is most)
-              ∙ ap (λ (l : List Piece). prefix ++ (said ++ l)) judged_is,
-          wrong,
-        )
+        let prefix = each tells.Pass (codes ".TS\n") ++ piece (tells.Table p.state.line) [] ∷ [] in
+        ap (λ (xs : List ℕ). (fed xs at).pieces) (append_assoc (codes ".TS\n") line (codes "\n"))
+        ∙ ap (λ (e : Effect). e.pieces) (fed_append (codes ".TS\n") (line ++ codes "\n") at)
+        ∙ ap (λ (e : Effect). prefix ++ e.pieces) (lines_are_read line (begun p) refl (one_line bytes h) fits)
+        ∙ ap (λ (e : Effect). prefix ++ (e.pieces ++ [])) (head_read p bytes h some)
+        ∙ ap (λ (l : List Piece). prefix ++ l) (append-nil (formats_ended r).pieces)
+        ∙ ap (λ (g : Formats). prefix ++ (said ++ (formats_judged (wrong_in g r) (formats_taken f r)).pieces)) (formats_end bytes n h is most)
+        ∙ ap (λ (k : Option Kind). prefix ++ (said ++ (formats_judged k (formats_taken f r)).pieces)) (none_wrong n r refl)
+        ∙ ap (λ (l : List Piece). prefix ++ l) (append-nil said)
 
-    by_count : (n : ℕ) → columns_in bytes ≡ n → 0 < n → n ≤ 64 → (wrongs : List Piece) × ((fed (table_with bytes) p).pieces ≡ head_pieces bytes wrongs) × IsWrong wrongs
+    by_count : (n : ℕ) → columns_in bytes ≡ n → 0 < n → n ≤ 64 → (fed (table_with bytes) p).pieces ≡ head_pieces p.state.line bytes
     by_count zero is none most = absurd (omega (arith, none))
-    by_count (suc n) is none most =
-        (let (wrongs, e, wrong) = said n is most in (wrongs, ap (λ (q : Page). (fed (table_with bytes) q).pieces) same ∙ e, wrong))
+    by_count (suc n) is none most = ap (λ (q : Page). (fed (table_with bytes) q).pieces) same ∙ said n is most
 
 pub formats_are_read : FormatsAreRead
 formats_are_read bytes p outside h some few room = read_with (columns_in bytes) bytes p outside h refl some few room
 
 pub tables_are_emitted : TablesAreEmitted
-tables_are_emitted l cells before bytes rows rest outside h some few room are =
-    let p = (fed before (first_page l cells)).page in
-    let keeps = fed_keeps before (first_page l cells) (omega arith) in
+tables_are_emitted l before bytes rows rest outside h some few room are =
+    let p = (fed before (first_page l)).page in
+    let keeps = fed_keeps before (first_page l) (omega arith) in
     let fits : length bytes < p.limits.formats = subst (λ (x : Limits). length bytes < x.formats) (sym keeps.limits) room in
-    rows_are_emitted l cells (code "\t") (columns_in bytes) (before ++ table_with bytes) rows rest
-    (subst (λ (e : Effect). IsBetweenRows (code "\t") (columns_in bytes) e.page) (sym (fed_append before (table_with bytes) (first_page l cells)))
+    rows_are_emitted l (code "\t") (columns_in bytes) (before ++ table_with bytes) rows rest
+    (subst (λ (e : Effect). IsBetweenRows (code "\t") (columns_in bytes) e.page) (sym (fed_append before (table_with bytes) (first_page l)))
     (formats_are_read bytes p outside h some few fits)) are

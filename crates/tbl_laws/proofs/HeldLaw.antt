@@ -15,7 +15,7 @@ use Rattle.tbl_reader.specs.declared.telling.Tell.{Tell}
 use Rattle.tbl_reader.specs.declared.telling.Tell.TheVariants as tells
 use Rattle.tbl_reader.specs.Telling.{Piece, piece}
 use Rattle.tbl_setting.specs.declared.setting.Setting.{Setting}
-use Rattle.tbl_setting.specs.Held.{table, table_set, table_strokes, waits, with_table, with_wide}
+use Rattle.tbl_setting.specs.Held.{table, table_set, table_strokes, with_table}
 use Rattle.tbl_setting.specs.Setting.{relief, relieved, set, strokes}
 use Rattle.tbl_laws.specs.HeldRows.{AreAmong, HasRoom, HoldsRows, RowsAreHeld, all_bytes, all_fields, all_of, all_rows, count}
 use Rattle.tbl_laws.specs.Rows.{are_of_rows, is_of_row, rows_emitted}
@@ -201,8 +201,7 @@ pub record Result (ps : List Piece) (o t : Table) (s : Setting) (rows : List (Li
   pub left : List (List ℕ)
   pub now : Table
   pub held : Held o now (rows ++ rows_emitted next ps) left
-  pub waiting : Option Complaint
-  pub becomes : set ps (with_table t s) ≡ with_wide waiting (with_table now s)
+  pub becomes : set ps (with_table t s) ≡ with_table now s
   pub silent : strokes ps (with_table t s) ≡ []
 
 abbrev pub Next : List Piece → Type 0
@@ -220,7 +219,7 @@ field_step prefix text ps plain more o t s rows next h r =
     let m = more o (field_added text prefix t) s rows (next ++ text ∷ []) (field_held o t (field_added text prefix t) rows next text h g k
     (text_if (nat_lt (length t.fields.items) t.fields.capacity) t.fields.items _ h.forms refl) refl)
     (field_room t (field_added text prefix t) (piece (tells.Field prefix) text) ps text r g k refl refl (let n : 0 + all_rows ps ≡ all_rows ps = omega arith in n)) in
-    record { left = m.left; now = m.now; held = m.held; waiting = m.waiting; becomes = m.becomes; silent = m.silent }
+    record { left = m.left; now = m.now; held = m.held; becomes = m.becomes; silent = m.silent }
 
 mark_step : (text : List ℕ) (ps : List Piece) → Step (tells.Mark marks.Nothing) text ps
 mark_step text ps more o t s rows next h r =
@@ -230,7 +229,7 @@ mark_step text ps more o t s rows next h r =
     let m = more o (mark_added forms.Text t) s rows (next ++ [] ∷ []) (field_held o t (mark_added forms.Text t) rows next [] h g k
     (text_if (nat_lt (length t.fields.items) t.fields.capacity) t.fields.items _ h.forms refl) refl)
     (field_room t (mark_added forms.Text t) (piece (tells.Mark marks.Nothing) text) ps [] r g k refl refl (let n : 0 + all_rows ps ≡ all_rows ps = omega arith in n)) in
-    record { left = m.left; now = m.now; held = m.held; waiting = m.waiting; becomes = m.becomes; silent = m.silent }
+    record { left = m.left; now = m.now; held = m.held; becomes = m.becomes; silent = m.silent }
 
 row_step : (text : List ℕ) (ps : List Piece) → Step tells.Row text ps
 row_step text ps more o t s rows next h r =
@@ -245,7 +244,6 @@ row_step text ps more o t s rows next h r =
       now = m.now;
       silent = ap (λ (l : List Stroke). l ++ strokes ps (relieved (with_table (row_ended t) s))) stays.1
           ∙ ap (strokes ps) stays.0 ∙ m.silent;
-      waiting = m.waiting;
       becomes = ap (set ps) stays.0 ∙ m.becomes;
       held = subst (λ (l : List (List (List ℕ))). Held o m.now l m.left) (append_assoc rows (next ∷ []) (rows_emitted [] ps)) m.held;
     }
@@ -253,12 +251,10 @@ row_step text ps more o t s rows next h r =
 same_step : (c : Complaint) (text : List ℕ) (ps : List Piece) → Step (tells.Wrong c) text ps
 same_step c text ps more o t s rows next h r =
     let none : (n : ℕ) → 0 + n ≡ n = λ n. omega arith in
-    let after = with_wide (if waits c.kind (with_table t s) then Some c else s.wide) s in
-    let m = more o t after rows next h (same_room t (piece (tells.Wrong c) text) ps r (none (all_bytes ps)) (none (all_fields ps)) (none (all_rows ps))) in
+    let m = more o t s rows next h (same_room t (piece (tells.Wrong c) text) ps r (none (all_bytes ps)) (none (all_fields ps)) (none (all_rows ps))) in
     record {
       left = m.left;
       now = m.now;
-      waiting = m.waiting;
       becomes = m.becomes;
       silent = m.silent;
       held = subst (λ (l : List (List ℕ)). Held o m.now (rows ++ rows_emitted l ps) m.left) (sym (append-nil next)) m.held;
@@ -276,7 +272,7 @@ by_tell (tells.Mark (marks.Repeat b)) text ps is = never is
 by_tell (tells.Mark marks.Above) text ps is = never is
 by_tell tells.Row text ps is = row_step text ps
 by_tell (tells.Wrong c) text ps is = same_step c text ps
-by_tell tells.Table text ps is = never is
+by_tell (tells.Table line) text ps is = never is
 by_tell (tells.Options x) text ps is = never is
 by_tell tells.Formats text ps is = never is
 by_tell (tells.Format c) text ps is = never is
@@ -296,7 +292,6 @@ no_piece o t s rows next h r = record {
   left = next;
   now = t;
   held = subst (λ (l : List (List (List ℕ))). Held o t l next) (sym (append-nil rows)) h;
-  waiting = s.wide;
   becomes = refl;
   silent = refl;
 }

@@ -65,18 +65,18 @@ said_last w ps text =
 -- ---- a page that is outside of tables after some bytes
 
 -- the pieces of the bytes before a text, of the text, and of what follows
-said_of : (l : Limits) (cells : ℕ) (before text rest : List ℕ)
-    → (fed before (first_page l cells)).page.state.mode ≡ modes.Passing starts.Nothing → is_untouched text ≡ true
-    → (qs : List Piece) × (page_said l cells (before ++ text ++ rest) ≡ (fed before (first_page l cells)).pieces ++ (each tells.Pass text ++ qs))
-said_of l cells before text rest outside h =
-    let p = (fed before (first_page l cells)).page in
+said_of : (l : Limits) (before text rest : List ℕ)
+    → (fed before (first_page l)).page.state.mode ≡ modes.Passing starts.Nothing → is_untouched text ≡ true
+    → (qs : List Piece) × (page_said l (before ++ text ++ rest) ≡ (fed before (first_page l)).pieces ++ (each tells.Pass text ++ qs))
+said_of l before text rest outside h =
+    let p = (fed before (first_page l)).page in
     let q = (fed text p).page in
     let r = fed rest q in
-    let ps = (fed before (first_page l cells)).pieces in
+    let ps = (fed before (first_page l)).pieces in
     let ends = (finished r.page).pieces in (
       r.pieces ++ ends,
-      ap (λ (xs : List ℕ). page_said l cells xs) (append_assoc before text rest)
-          ∙ ap (λ (e : Effect). (and_then e finished).pieces) (fed_append before (text ++ rest) (first_page l cells))
+      ap (λ (xs : List ℕ). page_said l xs) (append_assoc before text rest)
+          ∙ ap (λ (e : Effect). (and_then e finished).pieces) (fed_append before (text ++ rest) (first_page l))
           ∙ ap (λ (e : Effect). (ps ++ e.pieces) ++ (finished e.page).pieces) (fed_append text rest p)
           ∙ append_assoc ps ((fed text p).pieces ++ r.pieces) ends
           ∙ ap (λ (xs : List Piece). ps ++ xs) (append_assoc (fed text p).pieces r.pieces ends
@@ -84,48 +84,48 @@ said_of l cells before text rest outside h =
     )
 
 -- nothing follows
-said_to_end : (l : Limits) (cells : ℕ) (before text : List ℕ)
-    → (fed before (first_page l cells)).page.state.mode ≡ modes.Passing starts.Nothing → is_untouched text ≡ true
-    → page_said l cells (before ++ text) ≡ (fed before (first_page l cells)).pieces ++ each tells.Pass text
-said_to_end l cells before text outside h =
-    let p = (fed before (first_page l cells)).page in
-    let ps = (fed before (first_page l cells)).pieces in
+said_to_end : (l : Limits) (before text : List ℕ)
+    → (fed before (first_page l)).page.state.mode ≡ modes.Passing starts.Nothing → is_untouched text ≡ true
+    → page_said l (before ++ text) ≡ (fed before (first_page l)).pieces ++ each tells.Pass text
+said_to_end l before text outside h =
+    let p = (fed before (first_page l)).page in
+    let ps = (fed before (first_page l)).pieces in
     let c = passes p text outside h in
-    ap (λ (e : Effect). (and_then e finished).pieces) (fed_append before text (first_page l cells))
+    ap (λ (e : Effect). (and_then e finished).pieces) (fed_append before text (first_page l))
     ∙ append_assoc ps (fed text p).pieces (finished (fed text p).page).pieces
     ∙ ap (λ (xs : List Piece). ps ++ xs) (ap (λ (xs : List Piece). (fed text p).pieces ++ xs) c.ends ∙ append-nil (fed text p).pieces ∙ c.emitted)
 
 so_far_is_all : (w : Bounds) (before : List ℕ)
-    → (fed before (first_page w.limits w.cells)).page.state.mode ≡ modes.Passing starts.Nothing → set_so_far w before ≡ set_page w before
+    → (fed before (first_page w.limits)).page.state.mode ≡ modes.Passing starts.Nothing → set_so_far w before ≡ set_page w before
 so_far_is_all w before outside =
-    sym (ap (set_page w) (sym (append-nil before)) ∙ ap (set_bytes w) (said_to_end w.limits w.cells before [] outside refl ∙ append-nil (fed before (first_page w.limits w.cells)).pieces))
+    sym (ap (set_page w) (sym (append-nil before)) ∙ ap (set_bytes w) (said_to_end w.limits before [] outside refl ∙ append-nil (fed before (first_page w.limits)).pieces))
 
 -- ---- the laws
 
 pub pages_stay : PagesStay
 pages_stay w page h =
-    ap (set_bytes w) (untouched w.limits w.cells page h) ∙ text_bytes page (page_setting w) first
+    ap (set_bytes w) (untouched w.limits page h) ∙ text_bytes page (page_setting w) first
 
 pub first_text_stays : FirstTextStays
 first_text_stays w text rest h =
-    let (qs, said) = said_of w.limits w.cells [] text rest refl h in
+    let (qs, said) = said_of w.limits [] text rest refl h in
     let (more, out) = said_between w [] text qs in
     (more, ap (set_bytes w) said ∙ out)
 
 pub last_text_stays : LastTextStays
 last_text_stays w before text row line h =
-    let outside = table_ends w.limits w.cells before row line in
+    let outside = table_ends w.limits before row line in
     let all = before ++ table_end in
-    ap (set_bytes w) (said_to_end w.limits w.cells all text outside h)
-    ∙ said_last w (fed all (first_page w.limits w.cells)).pieces text
+    ap (set_bytes w) (said_to_end w.limits all text outside h)
+    ∙ said_last w (fed all (first_page w.limits)).pieces text
     ∙ ap (λ (xs : List ℕ). xs ++ text) (so_far_is_all w all outside)
 
 pub text_between_stays : TextBetweenStays
 text_between_stays w before text rest row line h =
-    let outside = table_ends w.limits w.cells before row line in
+    let outside = table_ends w.limits before row line in
     let all = before ++ table_end in
-    let (qs, said) = said_of w.limits w.cells all text rest outside h in
-    let (more, out) = said_between w (fed all (first_page w.limits w.cells)).pieces text qs in (
+    let (qs, said) = said_of w.limits all text rest outside h in
+    let (more, out) = said_between w (fed all (first_page w.limits)).pieces text qs in (
       more,
       ap (set_bytes w) said ∙ out
           ∙ ap (λ (xs : List ℕ). (xs ++ text) ++ more) (so_far_is_all w all outside),

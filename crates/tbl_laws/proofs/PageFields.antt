@@ -1,5 +1,5 @@
 -- A page with one table goes out with a line for each row, and the text around it as it came.
-use Rattle.std.proofs.Common.{◌≡◌, ℕ, zero, suc, ◌+◌, ◌*◌, ◌/◌, ◌<◌, ◌≤◌, min, List, [], ◌∷◌, ◌++◌, length, codes, Bool, true, false, not, ◌==◌, ◌&&◌, ◌||◌, inl, inr, refl, sym, ◌∙◌, ap, subst, append_assoc, append-nil, length-append, arith, if◌then◌else◌}
+use Rattle.std.proofs.Common.{◌≡◌, ℕ, zero, suc, ◌+◌, ◌*◌, ◌/◌, ◌<◌, ◌≤◌, min, List, [], ◌∷◌, ◌++◌, length, codes, Bool, true, false, not, ◌==◌, ◌&&◌, ◌||◌, refl, sym, ◌∙◌, ap, subst, append_assoc, append-nil, length-append, arith, if◌then◌else◌}
 use Prim.Native.Char.{code}
 use Rattle.tbl_columns.specs.declared.grid.Grid.{Grid}
 use Rattle.tbl_drawing.specs.declared.pen.Pen.{Pen}
@@ -24,9 +24,7 @@ use Rattle.tbl_reader.proofs.Runs.{fed_append}
 use Rattle.tbl_reader.proofs.Whole.{lines_are_read}
 use Rattle.tbl_setting.specs.declared.setting.Setting.{Setting}
 use Rattle.tbl_setting.specs.Bounds.{Bounds, page_setting}
-use Rattle.std.specs.Prelude.{Option, Some}
-use Rattle.tbl_reader.specs.declared.complaint.Complaint.{Complaint}
-use Rattle.tbl_setting.specs.Held.{table, table_begun, table_strokes, waits, with_table, with_wide}
+use Rattle.tbl_setting.specs.Held.{table, table_begun, table_strokes, with_table}
 use Rattle.tbl_setting.specs.Setting.{set, set_bytes, set_in, strokes}
 use Rattle.tbl_table.specs.declared.table.Table.{Table}
 use Rattle.tbl_table.specs.Held.{emptied}
@@ -36,7 +34,7 @@ use Rattle.tbl_laws.specs.Lines.{AreLines, FieldsGoOut, FitsIn, all_printed, are
 use Rattle.tbl_laws.specs.OutsideText as outside_text
 use Rattle.tbl_laws.specs.Rows.{AreRows, IsBetweenRows, Row, are_columns, are_fields, columns_in, fields_of_all, is_plain, rows_emitted, table_with, text_of, text_of_all}
 use Rattle.tbl_laws.proofs.FormatKeys.{formed, keys_of, letters_are, line_heard}
-use Rattle.tbl_laws.proofs.Heads.{IsWrong, formats_are_read, head_pieces, head_said}
+use Rattle.tbl_laws.proofs.Heads.{formats_are_read, head_pieces, head_said}
 use Rattle.tbl_setting.proofs.HeardText.{Passed, passed_then, text_passed}
 use Rattle.tbl_laws.proofs.HeldLaw.{Held, all_held, none_held}
 use Rattle.tbl_laws.proofs.HeldTables.{AllShown, AreFew, AreShown, CanHold, is_shown, rows_go_out}
@@ -123,50 +121,32 @@ formats_quiet : (f : Formats) (bytes : List ℕ) (ps : List Piece) (s : Setting)
 formats_quiet f [] ps s = refl
 formats_quiet f (b ∷ bs) ps s = formats_quiet (read b f).formats bs ps (set_in (tells.Format (read b f).called) [] s)
 
--- what is wrong may wait for the table
-wrong_quiet : (ps : List Piece) (s : Setting) → IsWrong ps → (strokes ps s ≡ []) × ((w : Option Complaint) × (set ps s ≡ with_wide w s))
-unfolding IsWrong
-wrong_quiet ps s (inl e) = (ap (λ (l : List Piece). strokes l s) e, (s.wide, ap (λ (l : List Piece). set l s) e))
-wrong_quiet ps s (inr (c, e)) =
-    (ap (λ (l : List Piece). strokes l s) e, ((if waits c.kind s then Some c else s.wide), ap (λ (l : List Piece). set l s) e))
-
 -- ---- the line of `.TS`, and the line of formats
 
--- what is held once a table begins
-begun : Setting → Setting
-begun s = table_begun (set (each tells.Pass (codes ".TS\n")) s)
+-- what is held once a table begins, with `.TS` on this line
+begun : ℕ → Setting → Setting
+begun line s = table_begun line (set (each tells.Pass (codes ".TS\n")) s)
 
-head_out : (bytes : List ℕ) (wrongs : List Piece) (s : Setting) (pen : Pen) → IsWrong wrongs → bytes_of (strokes (head_pieces bytes wrongs) s) pen ≡ codes ".TS\n"
+head_out : (line : ℕ) (bytes : List ℕ) (s : Setting) (pen : Pen) → bytes_of (strokes (head_pieces line bytes) s) pen ≡ codes ".TS\n"
 unfolding begun
-head_out bytes wrongs s pen wrong =
-    let f = first_formats 0 0 false in
-    let text = (bytes ++ codes ".") ++ codes "\n" in
-    let end = piece tells.FormatsEnd [] ∷ [] in
-    let u = begun s in
-    let v = set (formats_said f text) u in
-    let quiet : strokes (formats_said f text ++ end ++ wrongs) u ≡ [] =
-    ap (λ (l : List Piece). strokes l u) (append_assoc (formats_said f text) end wrongs) ∙ formats_quiet f text (end ++ wrongs) u
-    ∙ (wrong_quiet wrongs (set_in tells.FormatsEnd [] v) wrong).0 in
+head_out line bytes s pen =
+    let quiet : strokes (formats_said (first_formats 0 0 false) ((bytes ++ codes ".") ++ codes "\n") ++ piece tells.FormatsEnd [] ∷ []) (begun line s) ≡ [] =
+    formats_quiet (first_formats 0 0 false) ((bytes ++ codes ".") ++ codes "\n") (piece tells.FormatsEnd [] ∷ []) (begun line s) in
     ap (λ (l : List Stroke). codes ".TS\n" ++ bytes_of l pen) quiet
 
 -- the table after the line of formats
-abbrev table_at : ℕ → List ℕ → Setting → Table
-table_at n bytes s = formed (suc n) (keys_of bytes) (table (begun s))
+abbrev table_at : ℕ → ℕ → List ℕ → Setting → Table
+table_at line n bytes s = formed (suc n) (keys_of bytes) (table (begun line s))
 
-head_set : (bytes : List ℕ) (n : ℕ) (wrongs : List Piece) (s : Setting) → IsWrong wrongs → are_columns bytes ≡ true → columns_in bytes ≡ suc n → suc n ≤ 64
-    → 64 ≤ (table (begun s)).keys.capacity → 0 < (table (begun s)).lines.capacity
-    → (w : Option Complaint) × (set (head_pieces bytes wrongs) s ≡ with_wide w (with_table (table_at n bytes s) (begun s)))
+head_set : (line : ℕ) (bytes : List ℕ) (n : ℕ) (s : Setting) → are_columns bytes ≡ true → columns_in bytes ≡ suc n → suc n ≤ 64
+    → 64 ≤ (table (begun line s)).keys.capacity → 0 < (table (begun line s)).lines.capacity
+    → set (head_pieces line bytes) s ≡ with_table (table_at line n bytes s) (begun line s)
 unfolding begun
-head_set bytes n wrongs s wrong h is few keys lines =
+head_set line bytes n s h is few keys lines =
     let said = formats_said (first_formats 0 0 false) ((bytes ++ codes ".") ++ codes "\n") in
     let end = piece tells.FormatsEnd [] ∷ [] in
-    let u = begun s in
-    let (w, after) = (wrong_quiet wrongs (set (said ++ end) u) wrong).1 in (
-      w,
-      set_both (said ++ end) wrongs u
-          ∙ after
-          ∙ ap (with_wide w) (set_both said end u ∙ ap (set end) (line_heard bytes n (table u) u h is few keys lines)),
-    )
+    let u = begun line s in
+    set_both said end u ∙ ap (set end) (line_heard bytes n (table u) u h is few keys lines)
 
 -- ---- the line of `.TE`
 
@@ -208,9 +188,9 @@ record IsBegun (b : Bounds) (s : Setting) : Type 0 where
   places : s.layout.grid.placed.capacity ≡ b.limits.formats / 64 + 2
   steps : s.layout.steps.capacity ≡ ((b.limits.formats / 64 + 2) * 2 + 512) * 4 + 4
 
-is_begun : (b : Bounds) (s : Setting) → Passed (page_setting b) s → IsBegun b (begun s)
+is_begun : (b : Bounds) (line : ℕ) (s : Setting) → Passed (page_setting b) s → IsBegun b (begun line s)
 unfolding begun
-is_begun b s before =
+is_begun b line s before =
     let p = passed_then (page_setting b) s (set (each tells.Pass (codes ".TS\n")) s) before (text_passed (codes ".TS\n") s) in
     let k = p.knows.same in
     record {
@@ -222,11 +202,11 @@ is_begun b s before =
       steps = ap (λ (u : Setting). u.layout.steps.capacity) p.same;
     }
 
-can_hold : (b : Bounds) (s : Setting) (n : ℕ) (bytes : List ℕ) (rows : List Row) → IsBegun b (begun s) → columns_in bytes ≡ suc n → suc n ≤ 64
+can_hold : (b : Bounds) (line : ℕ) (s : Setting) (n : ℕ) (bytes : List ℕ) (rows : List Row) → IsBegun b (begun line s) → columns_in bytes ≡ suc n → suc n ≤ 64
     → AreRows b.limits (code "\t") (suc n) rows → all_printed (fields_of_all rows) ≡ true → FitsIn b.limits rows
-    → CanHold (suc n) (table_at n bytes s) (begun s).layout (fields_of_all rows)
+    → CanHold (suc n) (table_at line n bytes s) (begun line s).layout (fields_of_all rows)
 unfolding begun
-can_hold b s n bytes rows h is few are printed fits =
+can_hold b line s n bytes rows h is few are printed fits =
     let l = b.limits in
     let most = l.formats in
     let long = rows_count rows in
@@ -252,8 +232,8 @@ can_hold b s n bytes rows h is few are printed fits =
       columns = all_few l (code "\t") (suc n) rows are;
       shown = all_shown l (code "\t") (suc n) rows are printed;
       column_room = omega (arith, few, columns);
-      cell_room = subst (λ (k : ℕ). k * suc n ≤ (begun s).layout.grid.cells.capacity) (sym long) (omega (arith, all, cells));
-      number_room = subst (λ (k : ℕ). k * suc n ≤ (begun s).layout.grid.numbers.capacity) (sym long) (omega (arith, all, numbers));
+      cell_room = subst (λ (k : ℕ). k * suc n ≤ (begun line s).layout.grid.cells.capacity) (sym long) (omega (arith, all, cells));
+      number_room = subst (λ (k : ℕ). k * suc n ≤ (begun line s).layout.grid.numbers.capacity) (sym long) (omega (arith, all, numbers));
       place_room = omega (arith, long, quarter_of, places);
       number_small = omega (arith, part, small, numbers);
       step_room = omega (arith, long, quarter_of, steps);
@@ -261,9 +241,9 @@ can_hold b s n bytes rows h is few are printed fits =
       step_small = omega (arith, long, least, small);
     }
 
-has_room : (b : Bounds) (s : Setting) (n : ℕ) (bytes : List ℕ) (rows : List Row) (ps : List Piece) → IsBegun b (begun s) → suc n ≤ 64
-    → AreRows b.limits (code "\t") (suc n) rows → FitsIn b.limits rows → SoMuch (fields_of_all rows) ps → HasRoom (table_at n bytes s) ps
-has_room b s n bytes rows ps h few are fits much =
+has_room : (b : Bounds) (line : ℕ) (s : Setting) (n : ℕ) (bytes : List ℕ) (rows : List Row) (ps : List Piece) → IsBegun b (begun line s) → suc n ≤ 64
+    → AreRows b.limits (code "\t") (suc n) rows → FitsIn b.limits rows → SoMuch (fields_of_all rows) ps → HasRoom (table_at line n bytes s) ps
+has_room b line s n bytes rows ps h few are fits much =
     let l = b.limits in
     let most = l.formats in
     let many = fields_count l (code "\t") (suc n) rows few are in
@@ -293,19 +273,19 @@ has_room b s n bytes rows ps h few are fits much =
 at_mode : Mode → Page → Page
 at_mode m p = record p { state = record p.state { mode = m } }
 
-begun_said : (p : Page) → (fed (codes ".TS\n") (at_mode (modes.Passing starts.Nothing) p)).pieces ≡ each tells.Pass (codes ".TS\n") ++ piece tells.Table [] ∷ []
+begun_said : (p : Page) → (fed (codes ".TS\n") (at_mode (modes.Passing starts.Nothing) p)).pieces ≡ each tells.Pass (codes ".TS\n") ++ piece (tells.Table p.state.line) [] ∷ []
 unfolding at_mode
 begun_said p = refl
 
-narrows_is : (b : Bounds) (before : List ℕ) → is_untouched before ≡ true → (fed before (first_page b.limits b.cells)).page.state.mode ≡ modes.Passing starts.Nothing
-    → narrows b (before ++ codes ".TS\n") ≡ (begun (set (each tells.Pass before) (page_setting b))).layout.grid.room.fits
+narrows_is : (b : Bounds) (before : List ℕ) → is_untouched before ≡ true → (fed before (first_page b.limits)).page.state.mode ≡ modes.Passing starts.Nothing
+    → narrows b (before ++ codes ".TS\n") ≡ (begun (fed before (first_page b.limits)).page.state.line (set (each tells.Pass before) (page_setting b))).layout.grid.room.fits
 unfolding begun at_mode
 narrows_is b before clean outside =
-    let p0 = first_page b.limits b.cells in
+    let p0 = first_page b.limits in
     let t = page_setting b in
     let A = each tells.Pass before in
-    let B = each tells.Pass (codes ".TS\n") ++ piece tells.Table [] ∷ [] in
     let pa = fed before p0 in
+    let B = each tells.Pass (codes ".TS\n") ++ piece (tells.Table pa.page.state.line) [] ∷ [] in
     let said : (fed (before ++ codes ".TS\n") p0).pieces ≡ A ++ B =
     ap (λ (x : Effect). x.pieces) (fed_append before (codes ".TS\n") p0)
     ∙ ap (λ (x : List Piece). x ++ (fed (codes ".TS\n") pa.page).pieces) (passes p0 before refl clean).emitted
@@ -320,11 +300,11 @@ narrows_is b before clean outside =
 -- ---- the page
 
 -- one after the other
-said_is : (l : Limits) (cells : ℕ) (a b c d e : List ℕ)
-    → (let p = first_page l cells in let pa = fed a p in let pb = fed b pa.page in let pc = fed c pb.page in let pd = fed d pc.page in let pe = fed e pd.page in
-    page_said l cells (a ++ b ++ c ++ d ++ e) ≡ ((((pa.pieces ++ pb.pieces) ++ pc.pieces) ++ pd.pieces) ++ pe.pieces) ++ (finished pe.page).pieces)
-said_is l cells a b c d e =
-    let p = first_page l cells in
+said_is : (l : Limits) (a b c d e : List ℕ)
+    → (let p = first_page l in let pa = fed a p in let pb = fed b pa.page in let pc = fed c pb.page in let pd = fed d pc.page in let pe = fed e pd.page in
+    page_said l (a ++ b ++ c ++ d ++ e) ≡ ((((pa.pieces ++ pb.pieces) ++ pc.pieces) ++ pd.pieces) ++ pe.pieces) ++ (finished pe.page).pieces)
+said_is l a b c d e =
+    let p = first_page l in
     ap (λ (x : Effect). (and_then x finished).pieces)
     (fed_append (a ++ b ++ c ++ d) e p
     ∙ ap (λ (x : Effect). and_then x (fed e)) (fed_append (a ++ b ++ c) d p
@@ -338,19 +318,18 @@ together x h m t e z =
     ∙ ap (λ (l : List ℕ). l ++ e) (sym (append_assoc x (h ++ m) t) ∙ ap (λ (l : List ℕ). l ++ t) (sym (append_assoc x h m))))
 
 by_count : (n : ℕ) (b : Bounds) (before formats : List ℕ) (rows : List Row) (after : List ℕ)
-    → is_untouched before ≡ true → (fed before (first_page b.limits b.cells)).page.state.mode ≡ modes.Passing starts.Nothing
+    → is_untouched before ≡ true → (fed before (first_page b.limits)).page.state.mode ≡ modes.Passing starts.Nothing
     → is_untouched after ≡ true → are_columns formats ≡ true → columns_in formats ≡ n → 0 < n → n ≤ 64 → length formats < b.limits.formats
     → AreRows b.limits (code "\t") n rows → all_printed (fields_of_all rows) ≡ true → FitsIn b.limits rows
     → (narrows b (before ++ codes ".TS\n") && reaches_over b (before ++ table_with formats ++ text_of_all (code "\t") rows)) ≡ false
     → (lines : List ℕ)
-    × (set_bytes b (page_said b.limits b.cells (page_with before formats rows after)) ≡ before ++ codes ".TS\n" ++ head ++ lines ++ tail ++ outside_text.table_end ++ after)
+    × (set_bytes b (page_said b.limits (page_with before formats rows after)) ≡ before ++ codes ".TS\n" ++ head ++ lines ++ tail ++ outside_text.table_end ++ after)
     × AreLines (fields_of_all rows) lines
 by_count zero b before formats rows after clean outside rest h is some few room are printed fits stays = absurd (omega (arith, some))
 by_count (suc n) b before formats rows after clean outside rest h is some few room are printed fits stays =
     let l = b.limits in
-    let cells = b.cells in
     let tab = code "\t" in
-    let p0 = first_page l cells in
+    let p0 = first_page l in
     let pa = fed before p0 in
     let keep_a = fed_keeps before p0 (omega arith) in
     let room_a : length formats < pa.page.limits.formats = subst (λ (x : Limits). length formats < x.formats) (sym keep_a.limits) room in
@@ -359,7 +338,8 @@ by_count (suc n) b before formats rows after clean outside rest h is some few ro
     let i = is in
     let between : IsBetweenRows tab (suc n) pb.page =
     subst (λ (m : ℕ). IsBetweenRows tab m pb.page) is (formats_are_read formats pa.page outside h (omega (arith, i)) (omega (arith, i, few)) room_a) in
-    let (wrongs, head_is, wrong) = head_said pa.page formats outside h (omega (arith, i)) (omega (arith, i, few)) room_a in
+    let line = pa.page.state.line in
+    let head_is = head_said pa.page formats outside h (omega (arith, i)) (omega (arith, i, few)) room_a in
     let limits_b : pb.page.limits ≡ l = keep_b.limits ∙ keep_a.limits in
     let pc = fed (text_of_all tab rows) pb.page in
     let emitted = rows_tell l tab (suc n) rows pb.page between limits_b are in
@@ -371,13 +351,13 @@ by_count (suc n) b before formats rows after clean outside rest h is some few ro
     let pe = fed after pd.page in
     let t = page_setting b in
     let A = each tells.Pass before in
-    let H = head_pieces formats wrongs in
+    let H = head_pieces line formats in
     let T = pc.pieces in
     let E = piece tells.TableEnd [] ∷ each tells.Pass outside_text.table_end in
     let Z = each tells.Pass after in
     let said_a : pa.pieces ≡ A = (passes p0 before refl clean).emitted in
-    let said : page_said l cells (page_with before formats rows after) ≡ (((A ++ H) ++ T) ++ E) ++ Z =
-    said_is l cells before (table_with formats) (text_of_all tab rows) outside_text.table_end after
+    let said : page_said l (page_with before formats rows after) ≡ (((A ++ H) ++ T) ++ E) ++ Z =
+    said_is l before (table_with formats) (text_of_all tab rows) outside_text.table_end after
     ∙ ap (λ (x : List Piece). ((((pa.pieces ++ pb.pieces) ++ T) ++ pd.pieces) ++ pe.pieces) ++ x) last.ends
     ∙ append-nil ((((pa.pieces ++ pb.pieces) ++ T) ++ pd.pieces) ++ pe.pieces)
     ∙ ap (λ (x : List Piece). (((x ++ pb.pieces) ++ T) ++ pd.pieces) ++ pe.pieces) said_a
@@ -386,21 +366,20 @@ by_count (suc n) b before formats rows after clean outside rest h is some few ro
     ∙ ap (λ (x : List Piece). (((A ++ H) ++ T) ++ E) ++ x) last.emitted in
     let s = set A t in
     let passed = text_passed before t in
-    let begins = is_begun b s passed in
-    let v = begun s in
-    let o = table_at n formats s in
+    let begins = is_begun b line s passed in
+    let v = begun line s in
+    let o = table_at line n formats s in
     let keys_room : (table v).keys.capacity ≡ 16384 = ap (λ (x : Table). x.keys.capacity) begins.table_is in
     let lines_room : (table v).lines.capacity ≡ 256 = ap (λ (x : Table). x.lines.capacity) begins.table_is in
-    let (waiting, heads) = head_set formats n wrongs s wrong h is few (omega (arith, keys_room)) (omega (arith, lines_room)) in
-    let waits_so = with_wide waiting v in
-    let set_ah : set (A ++ H) t ≡ with_table o waits_so = set_both A H t ∙ heads in
+    let heads = head_set line formats n s h is few (omega (arith, keys_room)) (omega (arith, lines_room)) in
+    let set_ah : set (A ++ H) t ≡ with_table o v = set_both A H t ∙ heads in
     let none : (table v).fields.items ≡ [] = ap (λ (x : Table). x.fields.items) begins.table_is in
     let no_rows : (table v).rows.items ≡ [] = ap (λ (x : Table). x.rows.items) begins.table_is in
     let no_from : (table v).row_from ≡ 0 = ap (λ (x : Table). x.row_from) begins.table_is in
-    let held = all_held T emitted.only o o waits_so [] [] (none_held o none no_rows no_from) (has_room b s n formats rows T begins few are fits much) in
+    let held = all_held T emitted.only o o v [] [] (none_held o none no_rows no_from) (has_room b line s n formats rows T begins few are fits much) in
     let rows_is : rows_emitted [] T ≡ fields_of_all rows =
     ap (rows_emitted []) (sym (append-nil T)) ∙ emitted.emitted [] ∙ append-nil (fields_of_all rows) in
-    let u = with_wide held.waiting (with_table held.now v) in
+    let u = with_table held.now v in
     let set_aht : set ((A ++ H) ++ T) t ≡ u = set_both (A ++ H) T t ∙ ap (set T) set_ah ∙ held.becomes in
     let pen_a = after_all (strokes A t) first in
     let pen_b = after_all (strokes (A ++ H) t) first in
@@ -415,11 +394,11 @@ by_count (suc n) b before formats rows after clean outside rest h is some few ro
     let narrow_is : narrows b (before ++ codes ".TS\n") ≡ v.layout.grid.room.fits = narrows_is b before clean outside in
     let narrow : (u.layout.grid.room.fits && is_wider u.layout) ≡ false =
     sym (ap (λ (x : Bool). x && reaches_over b (before ++ table_with formats ++ text_of_all tab rows)) narrow_is ∙ ap (λ (x : Bool). v.layout.grid.room.fits && x) wide_is) ∙ stays in
-    let (lines, goes, are_lines) = rows_go_out (suc n) o held.now v.layout (fields_of_all rows) held.left pen_c (can_hold b s n formats rows begins is few are printed fits)
+    let (lines, goes, are_lines) = rows_go_out (suc n) o held.now v.layout (fields_of_all rows) held.left pen_c (can_hold b line s n formats rows begins is few are printed fits)
     (subst (λ (rs : List (List (List ℕ))). Held o held.now rs held.left) rows_is held.held) narrow in
     let out_a : bytes_of (strokes A t) first ≡ before = text_bytes before t first in
     let out_b : bytes_of (strokes (A ++ H) t) first ≡ before ++ codes ".TS\n" =
-    bytes_both A H t first ∙ ap (λ (x : List ℕ). x ++ bytes_of (strokes H (set A t)) pen_a) out_a ∙ ap (λ (x : List ℕ). before ++ x) (head_out formats wrongs (set A t) pen_a wrong) in
+    bytes_both A H t first ∙ ap (λ (x : List ℕ). x ++ bytes_of (strokes H (set A t)) pen_a) out_a ∙ ap (λ (x : List ℕ). before ++ x) (head_out line formats (set A t) pen_a) in
     let out_c : bytes_of (strokes ((A ++ H) ++ T) t) first ≡ before ++ codes ".TS\n" =
     bytes_both (A ++ H) T t first ∙ ap (λ (x : List ℕ). x ++ bytes_of (strokes T (set (A ++ H) t)) pen_b) out_b
     ∙ ap (λ (x : Setting). (before ++ codes ".TS\n") ++ bytes_of (strokes T x) pen_b) set_ah

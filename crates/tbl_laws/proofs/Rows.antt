@@ -7,10 +7,9 @@ use Rattle.tbl_table.specs.Rows.{joins}
 use Rattle.tbl_reader.specs.declared.state.State.{State}
 use Rattle.tbl_reader.specs.Fields.{marks_of, without_blanks_before, one_later, place_of, shape_of}
 use Rattle.tbl_reader.specs.Pages.{Page, Effect, effect, rest_of, line_of}
-use Rattle.tbl_reader.specs.RowLines.{Said, saying, solid, field_said, text_said, trimmed, shape_said, last_ended, rest_said, fields_ended, ended_at, after_field, next_said, widths_wrong}
-use Rattle.tbl_reader.specs.States.{field_counted, is_beyond, passes_line}
+use Rattle.tbl_reader.specs.RowLines.{Said, saying, solid, field_said, text_said, trimmed, shape_said, last_ended, rest_said, fields_ended, ended_at, after_field, next_said}
+use Rattle.tbl_reader.specs.States.{field_counted, is_beyond}
 use Rattle.tbl_reader.specs.Numbers.{one_more}
-use Rattle.tbl_reader.specs.Measure.{cells_of}
 use Rattle.tbl_reader.specs.Telling.{Piece}
 use Rattle.tbl_reader.proofs.Steady.{choose}
 use Rattle.tbl_laws.specs.Rows.{are_fields, are_of_rows, is_mark, is_plain, rows_emitted, text_of}
@@ -62,15 +61,11 @@ pub record At (tab columns fields : ℕ) (s : State) : Type 0 where
   pub columns_are : s.formats.columns ≡ columns
   pub fields_are : s.fields ≡ fields
 
--- the pieces of a field are its text, and what may be wrong with it
+-- the pieces of a field are its text
 pub record TellsField (tab columns fields : ℕ) (text : List ℕ) (said : Said) : Type 0 where
   pub state : At tab columns fields said.state
   pub emitted : (before : List (List ℕ)) (ps : List Piece) → rows_emitted before (said.pieces ++ ps) ≡ rows_emitted (before ++ text ∷ []) ps
   pub only : are_of_rows said.pieces ≡ true
-
-wrongs_only : (wide : Bool) (s : State) → are_of_rows (widths_wrong wide s) ≡ true
-wrongs_only true s = refl
-wrongs_only false s = refl
 
 byte_at : (tab : ℕ) (text : List ℕ) (i : ℕ) → is_plain tab text ≡ true → (get_or text i 0 == code "\\") ≡ false
 byte_at tab [] i h = refl
@@ -84,28 +79,20 @@ both_false false y z h = refl
 no_join : (tab : ℕ) (text : List ℕ) → is_plain tab text ≡ true → joins text ≡ false
 no_join tab text h = both_false (nat_le 2 (length text)) _ _ (byte_at tab text (length text - 2) h)
 
-wrongs_emitted : (wide : Bool) (s : State) (before : List (List ℕ)) (ps : List Piece) → rows_emitted before (widths_wrong wide s ++ ps) ≡ rows_emitted before ps
-wrongs_emitted true s before ps = ap (λ (l : List (List ℕ)). rows_emitted l ps) (append-nil before)
-wrongs_emitted false s before ps = refl
-
 solid_is : (s : State) (text : List ℕ) → s.options.nospaces ≡ false → solid s text ≡ text
 solid_is s text h = ap (λ (t : Bool). if t then take (marks_of s.options.point text).solid text else text) h
 
-text_tells : (tab columns fields : ℕ) (s : State) (text : List ℕ) → At tab columns fields s → is_plain tab text ≡ true → TellsField tab columns fields text (text_said s text)
+text_tells : (tab columns fields : ℕ) (s : State) (text : List ℕ) → At tab columns fields s → is_plain tab text ≡ true → TellsField tab columns fields text (saying s (text_said s text ∷ []))
 text_tells tab columns fields s text a h =
     let as_one : not (joins (solid s text)) ≡ true = ap (λ (t : List ℕ). not (joins t)) (solid_is s text a.blanks) ∙ ap not (no_join tab text h) in
-    let as_text : (before : List (List ℕ)) (ps : List Piece) → rows_emitted (before ++ solid s text ∷ []) ps ≡ rows_emitted (before ++ text ∷ []) ps =
-    λ before ps. ap (λ (t : List ℕ). rows_emitted (before ++ t ∷ []) ps) (solid_is s text a.blanks) in
-    choose (TellsField tab columns fields text) (is_beyond s) _ _
-    (record { state = a; emitted = as_text; only = ap (λ (t : Bool). t && true) as_one })
-    (record {
-      state = record { tab_is = a.tab_is; blanks = a.blanks; columns_are = a.columns_are; fields_are = a.fields_are };
-      emitted = λ before ps. wrongs_emitted (passes_line (cells_of (solid s text)) s) s (before ++ solid s text ∷ []) ps ∙ as_text before ps;
-      only = ap (λ (t : Bool). t && are_of_rows (widths_wrong (passes_line (cells_of (solid s text)) s) s)) as_one ∙ wrongs_only (passes_line (cells_of (solid s text)) s) s;
-    })
+    record {
+      state = a;
+      emitted = λ before ps. ap (λ (t : List ℕ). rows_emitted (before ++ t ∷ []) ps) (solid_is s text a.blanks);
+      only = ap (λ (t : Bool). t && true) as_one;
+    }
 
 shape_tells : (tab columns fields : ℕ) (s : State) (text : List ℕ) → At tab columns fields s → is_plain tab text ≡ true → is_mark text ≡ false
-    → TellsField tab columns fields text (shape_said (shape_of text) s text)
+    → TellsField tab columns fields text (saying s (shape_said (shape_of text) s text ∷ []))
 shape_tells tab columns fields s [] a h m = record { state = a; emitted = λ before ps. refl; only = refl }
 shape_tells tab columns fields s (b ∷ []) a h m = rw m (text_tells tab columns fields s (b ∷ []) a h)
 shape_tells tab columns fields s (b ∷ c ∷ []) a h m = rw (no_backslash tab b (c ∷ []) h) (rw m (text_tells tab columns fields s (b ∷ c ∷ []) a h))
@@ -123,7 +110,7 @@ pub field_tells : (tab columns fields : ℕ) (s : State) (text : List ℕ) → A
     → TellsField tab columns (fields + 1) text (field_said s text)
 field_tells tab columns fields s text a few h m =
     let t = shape_tells tab columns fields s text a h m in
-    let is : TellsField tab columns (fields + 1) text (let said = shape_said (shape_of text) s text in saying (field_counted said.state) said.pieces) = record {
+    let is : TellsField tab columns (fields + 1) text (saying (field_counted s) (shape_said (shape_of text) s text ∷ [])) = record {
       state = record {
         tab_is = t.state.tab_is;
         blanks = t.state.blanks;
@@ -133,7 +120,7 @@ field_tells tab columns fields s text a few h m =
       emitted = t.emitted;
       only = t.only;
     } in
-    subst (λ (x : List ℕ). TellsField tab columns (fields + 1) text (let said = shape_said (shape_of x) s x in saying (field_counted said.state) said.pieces)) (sym (trimmed_is s text a.blanks)) is
+    subst (λ (x : List ℕ). TellsField tab columns (fields + 1) text (saying (field_counted s) (shape_said (shape_of x) s x ∷ []))) (sym (trimmed_is s text a.blanks)) is
 
 -- ---- the fields of a line, one after the other
 

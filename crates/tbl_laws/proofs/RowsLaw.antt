@@ -233,19 +233,19 @@ rows_only l tab columns (r ∷ rs) p h same are =
     ∙ are_both e.pieces (fed (text_of_all tab rs) e.page).pieces t.only (rows_only l tab columns rs e.page t.page (t.limits ∙ same) are.1)
 
 pub rows_are_emitted : RowsAreEmitted
-rows_are_emitted l cells tab columns before rows rest h are =
-    let p = (fed before (first_page l cells)).page in
-    let ps = (fed before (first_page l cells)).pieces in
+rows_are_emitted l tab columns before rows rest h are =
+    let p = (fed before (first_page l)).page in
+    let ps = (fed before (first_page l)).pieces in
     let e = fed (text_of_all tab rows) p in
     let r = fed rest e.page in
     let ends = (finished r.page).pieces in
-    let keeps = fed_keeps before (first_page l cells) (omega arith) in
+    let keeps = fed_keeps before (first_page l) (omega arith) in
     record {
       emitted = e.pieces;
       after = r.pieces ++ ends;
       said_is =
-          ap (λ (x : Effect). (and_then x finished).pieces) (fed_append (before ++ text_of_all tab rows) rest (first_page l cells))
-          ∙ ap (λ (x : Effect). (and_then (and_then x (fed rest)) finished).pieces) (fed_append before (text_of_all tab rows) (first_page l cells))
+          ap (λ (x : Effect). (and_then x finished).pieces) (fed_append (before ++ text_of_all tab rows) rest (first_page l))
+          ∙ ap (λ (x : Effect). (and_then (and_then x (fed rest)) finished).pieces) (fed_append before (text_of_all tab rows) (first_page l))
           ∙ append_assoc (ps ++ e.pieces) r.pieces ends;
       rows_are = ap (rows_emitted []) (sym (append-nil e.pieces)) ∙ rows_tell l tab columns rows p h keeps.limits are [];
       only = rows_only l tab columns rows p h keeps.limits are;

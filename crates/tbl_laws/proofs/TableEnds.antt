@@ -352,12 +352,12 @@ walk : (bytes : List ℕ) (a b : ℕ) (p : Page) → Stands a b p → ends_after
 walk [] a b p h e = h.fresh e
 walk (c ∷ cs) a b p h e = walk cs b c (read c p).page (one_byte (c == code "\n") a b c p refl h) e
 
-begins_fresh : (l : Limits) (cells : ℕ) (before : List ℕ) → ends_line before ≡ true
-    → (let q = (fed before (first_page l cells)).page in Fresh q.state.mode q.start q.kept)
+begins_fresh : (l : Limits) (before : List ℕ) → ends_line before ≡ true
+    → (let q = (fed before (first_page l)).page in Fresh q.state.mode q.start q.kept)
 unfolding Within Fresh
-begins_fresh l cells before e =
-    walk before (code "\n") (code "\n") (first_page l cells)
-    (record { within = refl; quiet = λ h. quiet_empty (first_page l cells) refl; fresh = λ h. refl }) e
+begins_fresh l before e =
+    walk before (code "\n") (code "\n") (first_page l)
+    (record { within = refl; quiet = λ h. quiet_empty (first_page l) refl; fresh = λ h. refl }) e
 
 -- ---- the line `.TE` there
 
@@ -448,11 +448,11 @@ ended modes.Block q m f fits row =
     (subst (λ (mode : Mode). Outside (fed table_end (record q { state = record q.state { mode = mode }; kept = [] })).page) (sym m) (block_ends q row))
 ended modes.BlockLine q m f fits row = absurd f
 
-pub table_ends : (l : Limits) (cells : ℕ) (before : List ℕ) → 3 ≤ l.row → ends_line before ≡ true
-    → (fed (before ++ table_end) (first_page l cells)).page.state.mode ≡ modes.Passing starts.Nothing
+pub table_ends : (l : Limits) (before : List ℕ) → 3 ≤ l.row → ends_line before ≡ true
+    → (fed (before ++ table_end) (first_page l)).page.state.mode ≡ modes.Passing starts.Nothing
 unfolding Outside
-table_ends l cells before row line =
-    let q = (fed before (first_page l cells)).page in
-    let keeps = fed_keeps before (first_page l cells) (omega arith) in
-    ap (λ (e : Effect). e.page.state.mode) (fed_append before table_end (first_page l cells))
-    ∙ ended q.state.mode q refl (begins_fresh l cells before line) keeps.fits (subst (λ (x : Limits). 3 ≤ x.row) (sym keeps.limits) row)
+table_ends l before row line =
+    let q = (fed before (first_page l)).page in
+    let keeps = fed_keeps before (first_page l) (omega arith) in
+    ap (λ (e : Effect). e.page.state.mode) (fed_append before table_end (first_page l))
+    ∙ ended q.state.mode q refl (begins_fresh l before line) keeps.fits (subst (λ (x : Limits). 3 ≤ x.row) (sym keeps.limits) row)

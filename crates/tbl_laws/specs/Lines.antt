@@ -88,7 +88,7 @@ pub record FitsIn (l : Limits) (rows : List Row) : Type 0 where
 -- the table is
 
 abbrev pub held_after : Bounds → List ℕ → Setting
-held_after b bytes = set (said_so_far b.limits b.cells bytes) (page_setting b)
+held_after b bytes = set (said_so_far b.limits bytes) (page_setting b)
 
 abbrev pub narrows : Bounds → List ℕ → Bool
 narrows b before = b.fits && (held_after b before).watch.around.manual
@@ -105,7 +105,7 @@ page_with before formats rows after =
 abbrev pub FieldsGoOut : Type 0
 FieldsGoOut =
     (b : Bounds) (before formats : List ℕ) (rows : List Row) (after : List ℕ)
-    → is_untouched before ≡ true → IsOutside (fed before (first_page b.limits b.cells)).page → is_untouched after ≡ true
+    → is_untouched before ≡ true → IsOutside (fed before (first_page b.limits)).page → is_untouched after ≡ true
     → are_columns formats ≡ true → 0 < columns_in formats → columns_in formats ≤ 64 → length formats < b.limits.formats
     → AreRows b.limits (code "\t") (columns_in formats) rows → all_printed (fields_of_all rows) ≡ true → FitsIn b.limits rows
     → (narrows b (before ++ codes ".TS\n") && reaches_over b (before ++ table_with formats ++ text_of_all (code "\t") rows)) ≡ false

@@ -45,8 +45,8 @@ IsOutside p = p.state.mode ≡ modes.Passing Nothing
 
 abbrev pub TablesEnd : Type 0
 TablesEnd =
-    (limits : Limits) (cells : ℕ) (before : List ℕ) → 3 ≤ limits.row → ends_line before ≡ true
-    → IsOutside (fed (before ++ table_end) (first_page limits cells)).page
+    (limits : Limits) (before : List ℕ) → 3 ≤ limits.row → ends_line before ≡ true
+    → IsOutside (fed (before ++ table_end) (first_page limits)).page
 
 -- up to the end of the page, or to where a table begins
 abbrev pub LastTextStays : Type 0

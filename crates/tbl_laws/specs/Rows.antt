@@ -135,9 +135,9 @@ pub record TellsRows (before said : List Piece) (rows : List Row) : Type 0 where
 
 abbrev pub RowsAreEmitted : Type 0
 RowsAreEmitted =
-    (l : Limits) (cells tab columns : ℕ) (before : List ℕ) (rows : List Row) (rest : List ℕ)
-    → IsBetweenRows tab columns (fed before (first_page l cells)).page → AreRows l tab columns rows
-    → TellsRows (fed before (first_page l cells)).pieces (page_said l cells (before ++ text_of_all tab rows ++ rest)) rows
+    (l : Limits) (tab columns : ℕ) (before : List ℕ) (rows : List Row) (rest : List ℕ)
+    → IsBetweenRows tab columns (fed before (first_page l)).page → AreRows l tab columns rows
+    → TellsRows (fed before (first_page l)).pieces (page_said l (before ++ text_of_all tab rows ++ rest)) rows
 
 -- ---- so a page stands after the line of `.TS` and one line of formats: columns of l, r and c, and a point
 
@@ -177,8 +177,8 @@ OptionsAreRead =
 
 abbrev pub TablesAreEmitted : Type 0
 TablesAreEmitted =
-    (l : Limits) (cells : ℕ) (before formats : List ℕ) (rows : List Row) (rest : List ℕ)
-    → IsOutside (fed before (first_page l cells)).page → are_columns formats ≡ true → 0 < columns_in formats
+    (l : Limits) (before formats : List ℕ) (rows : List Row) (rest : List ℕ)
+    → IsOutside (fed before (first_page l)).page → are_columns formats ≡ true → 0 < columns_in formats
     → columns_in formats ≤ 64 → length formats < l.formats → AreRows l (code "\t") (columns_in formats) rows
-    → TellsRows (fed (before ++ table_with formats) (first_page l cells)).pieces
-    (page_said l cells (before ++ table_with formats ++ text_of_all (code "\t") rows ++ rest)) rows
+    → TellsRows (fed (before ++ table_with formats) (first_page l)).pieces
+    (page_said l (before ++ table_with formats ++ text_of_all (code "\t") rows ++ rest)) rows

@@ -24,12 +24,11 @@ use Rattle.tbl_reader.specs.Fields.{shape_of, is_request, place_of, cleaned, con
 use Rattle.tbl_reader.specs.Formats.{read as read_format}
 use Rattle.tbl_reader.specs.HeadLines as heads
 use Rattle.tbl_reader.specs.Heads.{options_end, is_dotted}
-use Rattle.tbl_reader.specs.Measure.{cells_of}
 use Rattle.tbl_reader.specs.Options.{options_of}
 use Rattle.tbl_reader.specs.Outside.{passed, line_passed, plain_passed, plain_line_passed, given_up}
 use Rattle.tbl_reader.specs.Pages.{Page, Effect, effect, and_then, with_state, line_counted, forgotten, rest_of, line_of, wrong}
 use Rattle.tbl_reader.specs.Reading.{read, read_in, fed, kept, limit_of, with_kept, block_goes_on, kept_more, line_ended, line_ended_in, overflown, overflown_in}
-use Rattle.tbl_reader.specs.RowLines.{Said, saying, trimmed, solid, are_empty, text_said, shape_said, field_said, last_said, widths_wrong, ended_at, fields_ended, all_ended, line_cleaned, last_ended, rest_said, rest_emitted, line_continued, row_line, row_so_far, line_between, long_end, row_overflown}
+use Rattle.tbl_reader.specs.RowLines.{Said, trimmed, are_empty, field_said, last_said, ended_at, fields_ended, all_ended, line_cleaned, last_ended, rest_said, rest_emitted, line_continued, row_line, row_so_far, line_between, long_end, row_overflown}
 use Rattle.tbl_reader.specs.States as states
 use Rattle.tbl_reader.specs.Telling.{Piece, piece, each}
 use Rattle.tbl_reader.proofs.Steady.{choose, cleaned_shorter}
@@ -80,32 +79,11 @@ each_length t (x ∷ xs) = ap suc (each_length t xs)
 
 -- ---- fields
 
-wrong_few : (wide : Bool) (s : State) → length (widths_wrong wide s) ≤ 1
-wrong_few true s = omega arith
-wrong_few false s = omega arith
-
-text_few : (s : State) (text : List ℕ) → length (text_said s text).pieces ≤ 2
-text_few s text =
-    choose (λ (x : Said). length x.pieces ≤ 2) (states.is_beyond s) _ _ (omega arith) (let x = wrong_few (states.passes_line (cells_of (solid s text)) s) s in omega (arith, x))
-
-shape_few : (shape : Shape) (s : State) (text : List ℕ) → length (shape_said shape s text).pieces ≤ 2
-shape_few shapes.Empty s text = omega arith
-shape_few (shapes.Mark mark) s text = omega arith
-shape_few shapes.Block s text = text_few s text
-shape_few shapes.Text s text = text_few s text
-
-field_few : (s : State) (text : List ℕ) → length (field_said s text).pieces ≤ 2
-field_few s text = let t = trimmed s text in shape_few (shape_of t) s t
-
-last_few : (s : State) (text : List ℕ) → length (last_said s text).pieces ≤ 3
+last_few : (s : State) (text : List ℕ) → length (last_said s text).pieces ≤ 2
 last_few s text =
     let t = trimmed s text in
-    let last : length (if are_empty s.options.tab t then saying s [] else saying (text_said s t).state (wrong kinds.TooManyFields s ∷ (text_said s t).pieces)).pieces ≤ 3 =
-    choose (λ (x : Said). length x.pieces ≤ 3) (are_empty s.options.tab t) (saying s []) (saying (text_said s t).state (wrong kinds.TooManyFields s ∷ (text_said s t).pieces))
-    (omega arith) (let x = text_few s t in omega (arith, x)) in
-    choose (λ (x : Said). length x.pieces ≤ 3) (not (states.is_beyond s)) (field_said s text)
-    (if are_empty s.options.tab t then saying s [] else saying (text_said s t).state (wrong kinds.TooManyFields s ∷ (text_said s t).pieces))
-    (let x = field_few s text in omega (arith, x)) last
+    choose (λ (x : Said). length x.pieces ≤ 2) (not (states.is_beyond s)) _ _ (omega arith)
+    (choose (λ (x : Said). length x.pieces ≤ 2) (are_empty s.options.tab t) _ _ (omega arith) (omega arith))
 
 some_is : (x y : ℕ) → Some x ≡ Some y → x ≡ y
 some_is x y e = cc
@@ -128,11 +106,10 @@ fields_at (Some len) n p e next =
     let said = field_said p.state (drop p.from (take end p.kept)) in
     let q : Page = record p { state = said.state; from = end + 1; start = end + 1 } in
     let x = next q in
-    let y = field_few p.state (drop p.from (take end p.kept)) in
     let z = length-append said.pieces (fields_ended n q).pieces in
     let within = place_within p.state.options.tab (line_of p) len e in
     let cut = length-drop p.start p.kept in
-    omega (arith, x, y, z, within, cut)
+    omega (arith, x, z, within, cut)
 
 fields_few : (n : ℕ) (p : Page) → length (fields_ended n p).pieces + row_weight (fields_ended n p).page ≤ row_weight p
 fields_few zero p = omega arith
@@ -463,12 +440,12 @@ finished_few p =
     let w = length-append e.pieces (closed e.page).pieces in
     omega (arith, x, y, z, w))
 
-pub cut_few : (l : Limits) (cells : ℕ) (bytes : List ℕ) → length (fed bytes (first_page l cells)).pieces ≤ 16 * length bytes
-cut_few l cells bytes = (let x = (fed_light bytes (first_page l cells)).few in omega (arith, x))
+pub cut_few : (l : Limits) (bytes : List ℕ) → length (fed bytes (first_page l)).pieces ≤ 16 * length bytes
+cut_few l bytes = (let x = (fed_light bytes (first_page l)).few in omega (arith, x))
 
-pub page_few : (l : Limits) (cells : ℕ) (bytes : List ℕ) → length (page_said l cells bytes) ≤ 16 * (length bytes + 1)
-page_few l cells bytes =
-    let p = first_page l cells in
+pub page_few : (l : Limits) (bytes : List ℕ) → length (page_said l bytes) ≤ 16 * (length bytes + 1)
+page_few l bytes =
+    let p = first_page l in
     let x = (fed_light bytes p).few in
     let y = finished_few (fed bytes p).page in
     let z = length-append (fed bytes p).pieces (finished (fed bytes p).page).pieces in

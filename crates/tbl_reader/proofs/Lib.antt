@@ -8,7 +8,6 @@ pub mod Keeping
 pub mod Lines
 pub mod Pairs
 pub mod Parts
-pub mod Plain
 pub mod Passed
 pub mod Runs
 pub mod Steady

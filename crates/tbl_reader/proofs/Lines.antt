@@ -64,7 +64,7 @@ took_kept shows hears bytes n len p q r old new k fits line within some few room
       lines =
           (let a : r.state.line ≡ (kept_more q).page.state.line = ap (λ (x : Page). x.state.line) page in
           let b : q.state.line ≡ p.state.line = ap (λ (x : Page). x.state.line) kept in
-          let d = goes.same.line in omega (arith, a, b, d));
+          let d = goes.same in omega (arith, a, b, d));
     }
 
 -- it ends
@@ -81,7 +81,7 @@ took_end shows hears bytes p q old new k fits some first page emitted =
       page = page ∙ ap (λ (x : Effect). x.page) (sym all);
       emitted = subst (λ (x : Effect). Tells shows hears x.pieces old new) (sym all) emitted;
       fits = subst Fits (sym page) goes.fits;
-      lines = (let a : q.state.line ≡ (line_ended p).page.state.line = ap (λ (x : Page). x.state.line) page in let d = goes.same.line in omega (arith, a, d));
+      lines = (let a : q.state.line ≡ (line_ended p).page.state.line = ap (λ (x : Page). x.state.line) page in let d = goes.same in omega (arith, a, d));
     }
 
 -- a newline alone

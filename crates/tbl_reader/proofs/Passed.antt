@@ -8,12 +8,11 @@ use Rattle.tbl_reader.specs.declared.state.Mode.{Mode}
 use Rattle.tbl_reader.specs.declared.state.Mode.TheVariants as modes
 use Rattle.tbl_reader.specs.declared.telling.Tell.TheVariants as tells
 use Rattle.tbl_reader.specs.Commands.{is_free}
-use Rattle.tbl_reader.specs.Ending.{finished}
 use Rattle.tbl_reader.specs.Pages.{Page, effect, at_mode}
 use Rattle.tbl_reader.specs.Passing.{line_len}
 use Rattle.tbl_reader.specs.Reading.{read, fed, with_kept, is_kept, limit_of, Fits, Took, AreFree, lines_on}
 use Rattle.tbl_reader.specs.Telling.{Piece, Tells, each}
-use Rattle.tbl_reader.proofs.Keeping.{read_keeps, end_stays}
+use Rattle.tbl_reader.proofs.Keeping.{read_keeps}
 use Rattle.tbl_reader.proofs.Runs.{plain_before, fits_more, fed_kept_all, fed_free, free_take}
 
 -- lines outside of tables
@@ -65,6 +64,3 @@ one_read shows hears b n p q old new fits t =
           (subst (λ (xs : List ℕ). Tells shows hears (fed xs p).pieces old new) same t.emitted);
       goes_on = (ap (λ (x : Page). x.limits) page ∙ (read_keeps b p fits).limits, t.fits, (let x = t.lines in omega (arith, x, one)));
     }
-
-pub end_keeps_limits : (p q : Page) → Fits p → q ≡ (finished p).page → q.limits ≡ p.limits
-end_keeps_limits p q fits is = (end_stays p.limits p.state.measure.line p q fits (record { limits = refl; cells_are = refl }) is).limits

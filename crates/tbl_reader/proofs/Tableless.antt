@@ -29,9 +29,9 @@ not_true false h = refl
 not_true true h = absurd (let no : false ≡ true = h in cc)
 
 -- a page outside of tables, in a line that begins so
-outside : Limits → ℕ → ℕ → Start → Page
-outside l cells line s =
-    record { state = record (first_state cells) { mode = modes.Passing s; line = line }; limits = l; kept = []; from = 0; start = 0 }
+outside : Limits → ℕ → Start → Page
+outside l line s =
+    record { state = record first_state { mode = modes.Passing s; line = line }; limits = l; kept = []; from = 0; start = 0 }
 
 -- the bytes of such a beginning, where these are known
 held : Start → List ℕ
@@ -61,19 +61,19 @@ one_more p q b bs e more = record {
   ends = ap (λ (x : Effect). (finished (fed bs x.page).page).pieces) e ∙ more.ends;
 }
 
-read_on : (l : Limits) (cells line b : ℕ) (s : Start) → (b == code "\n") ≡ false
-    → read b (outside l cells line s) ≡ effect (outside l cells line (start_with (code "S") b s)) (piece tells.Pass (b ∷ []) ∷ [])
+read_on : (l : Limits) (line b : ℕ) (s : Start) → (b == code "\n") ≡ false
+    → read b (outside l line s) ≡ effect (outside l line (start_with (code "S") b s)) (piece tells.Pass (b ∷ []) ∷ [])
 unfolding outside
-read_on l cells line b s e = rw e refl
+read_on l line b s e = rw e refl
 
-read_newline : (l : Limits) (cells line b : ℕ) (s : Start) → (b == code "\n") ≡ true → begins_command s ≡ false
-    → read b (outside l cells line s) ≡ effect (outside l cells (line + 1) starts.Nothing) (piece tells.Pass (b ∷ []) ∷ [])
+read_newline : (l : Limits) (line b : ℕ) (s : Start) → (b == code "\n") ≡ true → begins_command s ≡ false
+    → read b (outside l line s) ≡ effect (outside l (line + 1) starts.Nothing) (piece tells.Pass (b ∷ []) ∷ [])
 unfolding outside
-read_newline l cells line b s e f = rw e (rw f refl)
+read_newline l line b s e f = rw e (rw f refl)
 
-finished_outside : (l : Limits) (cells line : ℕ) (s : Start) → begins_command s ≡ false → (finished (outside l cells line s)).pieces ≡ []
+finished_outside : (l : Limits) (line : ℕ) (s : Start) → begins_command s ≡ false → (finished (outside l line s)).pieces ≡ []
 unfolding outside
-finished_outside l cells line s f = rw f refl
+finished_outside l line s f = rw f refl
 
 -- ---- what is held, and what follows
 
@@ -128,71 +128,71 @@ ends_none starts.Other k h = refl
 
 -- ---- all bytes
 
-record Untouched (l : Limits) (cells : ℕ) (bs : List ℕ) : Type 0 where
-  pub midst : (line : ℕ) → has_table_from false bs ≡ false → Comes_to (outside l cells line starts.Other) bs
-  pub start : (line : ℕ) (s : Start) → is_held s ≡ true → has_table_from true (held s ++ bs) ≡ false → Comes_to (outside l cells line s) bs
+record Untouched (l : Limits) (bs : List ℕ) : Type 0 where
+  pub midst : (line : ℕ) → has_table_from false bs ≡ false → Comes_to (outside l line starts.Other) bs
+  pub start : (line : ℕ) (s : Start) → is_held s ≡ true → has_table_from true (held s ++ bs) ≡ false → Comes_to (outside l line s) bs
 
-none_untouched : (l : Limits) (cells : ℕ) → Untouched l cells []
-none_untouched l cells = record {
-  midst = λ line h. record { emitted = refl; ends = finished_outside l cells line starts.Other refl };
-  start = λ line s k h. record { emitted = refl; ends = finished_outside l cells line s (ends_none s k h) };
+none_untouched : (l : Limits) → Untouched l []
+none_untouched l = record {
+  midst = λ line h. record { emitted = refl; ends = finished_outside l line starts.Other refl };
+  start = λ line s k h. record { emitted = refl; ends = finished_outside l line s (ends_none s k h) };
 }
 
 -- a newline comes
-after_newline : (l : Limits) (cells line b : ℕ) (bs : List ℕ) (s : Start) → Untouched l cells bs → (b == code "\n") ≡ true → begins_command s ≡ false
-    → has_table_from (b == code "\n") bs ≡ false → Comes_to (outside l cells line s) (b ∷ bs)
+after_newline : (l : Limits) (line b : ℕ) (bs : List ℕ) (s : Start) → Untouched l bs → (b == code "\n") ≡ true → begins_command s ≡ false
+    → has_table_from (b == code "\n") bs ≡ false → Comes_to (outside l line s) (b ∷ bs)
 unfolding held is_held
-after_newline l cells line b bs s u e f h =
-    one_more (outside l cells line s) (outside l cells (line + 1) starts.Nothing) b bs (read_newline l cells line b s e f)
+after_newline l line b bs s u e f h =
+    one_more (outside l line s) (outside l (line + 1) starts.Nothing) b bs (read_newline l line b s e f)
     (u.start (line + 1) starts.Nothing refl (ap (λ t. has_table_from t bs) (sym e) ∙ h))
 
 -- another byte comes
-goes_on : (l : Limits) (cells line b : ℕ) (bs : List ℕ) (s t : Start) → Untouched l cells bs → (b == code "\n") ≡ false → start_with (code "S") b s ≡ t
-    → Comes_to (outside l cells line t) bs → Comes_to (outside l cells line s) (b ∷ bs)
-goes_on l cells line b bs s t u e f more =
-    one_more (outside l cells line s) (outside l cells line t) b bs
-    (read_on l cells line b s e ∙ ap (λ x. effect (outside l cells line x) (piece tells.Pass (b ∷ []) ∷ [])) f) more
+goes_on : (l : Limits) (line b : ℕ) (bs : List ℕ) (s t : Start) → Untouched l bs → (b == code "\n") ≡ false → start_with (code "S") b s ≡ t
+    → Comes_to (outside l line t) bs → Comes_to (outside l line s) (b ∷ bs)
+goes_on l line b bs s t u e f more =
+    one_more (outside l line s) (outside l line t) b bs
+    (read_on l line b s e ∙ ap (λ x. effect (outside l line x) (piece tells.Pass (b ∷ []) ∷ [])) f) more
 
-at_start : (l : Limits) (cells line b : ℕ) (bs : List ℕ) (s t : Start) → Untouched l cells bs → (b == code "\n") ≡ false → is_held s ≡ true
-    → has_table_from true (held s ++ b ∷ bs) ≡ false → start_with (code "S") b s ≡ t → Comes_to (outside l cells line t) bs
+at_start : (l : Limits) (line b : ℕ) (bs : List ℕ) (s t : Start) → Untouched l bs → (b == code "\n") ≡ false → is_held s ≡ true
+    → has_table_from true (held s ++ b ∷ bs) ≡ false → start_with (code "S") b s ≡ t → Comes_to (outside l line t) bs
 unfolding is_held
-at_start l cells line b bs s starts.Nothing u e k h f =
+at_start l line b bs s starts.Nothing u e k h f =
     u.start line starts.Nothing refl (ap (λ xs. has_table_from true (xs ++ bs)) (held_grows s starts.Nothing b f k refl) ∙ ap (has_table_from true) (append_assoc (held s) (b ∷ []) bs) ∙ h)
-at_start l cells line b bs s starts.Dot u e k h f =
+at_start l line b bs s starts.Dot u e k h f =
     u.start line starts.Dot refl (ap (λ xs. has_table_from true (xs ++ bs)) (held_grows s starts.Dot b f k refl) ∙ ap (has_table_from true) (append_assoc (held s) (b ∷ []) bs) ∙ h)
-at_start l cells line b bs s starts.DotT u e k h f =
+at_start l line b bs s starts.DotT u e k h f =
     u.start line starts.DotT refl (ap (λ xs. has_table_from true (xs ++ bs)) (held_grows s starts.DotT b f k refl) ∙ ap (has_table_from true) (append_assoc (held s) (b ∷ []) bs) ∙ h)
-at_start l cells line b bs s starts.Name u e k h f =
+at_start l line b bs s starts.Name u e k h f =
     u.start line starts.Name refl (ap (λ xs. has_table_from true (xs ++ bs)) (held_grows s starts.Name b f k refl) ∙ ap (has_table_from true) (append_assoc (held s) (b ∷ []) bs) ∙ h)
-at_start l cells line b bs s starts.Command u e k h f = absurd (no_command s b bs k h f)
-at_start l cells line b bs s starts.Other u e k h f = u.midst line (ap (λ x. has_table_from x bs) (sym e) ∙ none_after s b bs k h)
+at_start l line b bs s starts.Command u e k h f = absurd (no_command s b bs k h f)
+at_start l line b bs s starts.Other u e k h f = u.midst line (ap (λ x. has_table_from x bs) (sym e) ∙ none_after s b bs k h)
 
-start_step : (l : Limits) (cells line b : ℕ) (bs : List ℕ) (s : Start) (newline : Bool) → (b == code "\n") ≡ newline → Untouched l cells bs → is_held s ≡ true
-    → has_table_from true (held s ++ b ∷ bs) ≡ false → Comes_to (outside l cells line s) (b ∷ bs)
-start_step l cells line b bs s true e u k h = after_newline l cells line b bs s u e (no_end s b bs e k h) (none_after s b bs k h)
-start_step l cells line b bs s false e u k h = goes_on l cells line b bs s (start_with (code "S") b s) u e refl (at_start l cells line b bs s (start_with (code "S") b s) u e k h refl)
+start_step : (l : Limits) (line b : ℕ) (bs : List ℕ) (s : Start) (newline : Bool) → (b == code "\n") ≡ newline → Untouched l bs → is_held s ≡ true
+    → has_table_from true (held s ++ b ∷ bs) ≡ false → Comes_to (outside l line s) (b ∷ bs)
+start_step l line b bs s true e u k h = after_newline l line b bs s u e (no_end s b bs e k h) (none_after s b bs k h)
+start_step l line b bs s false e u k h = goes_on l line b bs s (start_with (code "S") b s) u e refl (at_start l line b bs s (start_with (code "S") b s) u e k h refl)
 
-midst_step : (l : Limits) (cells line b : ℕ) (bs : List ℕ) (newline : Bool) → (b == code "\n") ≡ newline → Untouched l cells bs
-    → has_table_from (b == code "\n") bs ≡ false → Comes_to (outside l cells line starts.Other) (b ∷ bs)
-midst_step l cells line b bs true e u h = after_newline l cells line b bs starts.Other u e refl h
-midst_step l cells line b bs false e u h = goes_on l cells line b bs starts.Other starts.Other u e refl (u.midst line (ap (λ x. has_table_from x bs) (sym e) ∙ h))
+midst_step : (l : Limits) (line b : ℕ) (bs : List ℕ) (newline : Bool) → (b == code "\n") ≡ newline → Untouched l bs
+    → has_table_from (b == code "\n") bs ≡ false → Comes_to (outside l line starts.Other) (b ∷ bs)
+midst_step l line b bs true e u h = after_newline l line b bs starts.Other u e refl h
+midst_step l line b bs false e u h = goes_on l line b bs starts.Other starts.Other u e refl (u.midst line (ap (λ x. has_table_from x bs) (sym e) ∙ h))
 
-all_untouched : (l : Limits) (cells : ℕ) (bs : List ℕ) → Untouched l cells bs
-all_untouched l cells [] = none_untouched l cells
-all_untouched l cells (b ∷ bs) =
-    let u = all_untouched l cells bs in
+all_untouched : (l : Limits) (bs : List ℕ) → Untouched l bs
+all_untouched l [] = none_untouched l
+all_untouched l (b ∷ bs) =
+    let u = all_untouched l bs in
     record {
-      midst = λ line h. midst_step l cells line b bs (b == code "\n") refl u h;
-      start = λ line s k h. start_step l cells line b bs s (b == code "\n") refl u k h;
+      midst = λ line h. midst_step l line b bs (b == code "\n") refl u h;
+      start = λ line s k h. start_step l line b bs s (b == code "\n") refl u k h;
     }
 
 both : (p : Page) (bs : List ℕ) → Comes_to p bs → (fed bs p).pieces ++ (finished (fed bs p).page).pieces ≡ each tells.Pass bs
 both p bs h = ap (λ (ps : List Piece). (fed bs p).pieces ++ ps) h.ends ∙ append-nil (fed bs p).pieces ∙ h.emitted
 
-pub untouched : (l : Limits) (cells : ℕ) (text : List ℕ) → is_untouched text ≡ true → page_said l cells text ≡ each tells.Pass text
+pub untouched : (l : Limits) (text : List ℕ) → is_untouched text ≡ true → page_said l text ≡ each tells.Pass text
 unfolding outside held is_held
-untouched l cells text h =
-    both (first_page l cells) text ((all_untouched l cells text).start 1 starts.Nothing refl (not_true (has_table text) h))
+untouched l text h =
+    both (first_page l) text ((all_untouched l text).start 1 starts.Nothing refl (not_true (has_table text) h))
 
 -- at the end of the text
 pub untouched_at_end : (text : List ℕ) (i : ℕ) (starts : Bool) → length text ≤ i → has_table_from starts (drop i text) ≡ has_table text → is_untouched text ≡ true

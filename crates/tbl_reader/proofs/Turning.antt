@@ -14,7 +14,7 @@ use Rattle.tbl_reader.specs.declared.running.TurnResult.TheVariants as turns
 use Rattle.tbl_reader.specs.Telling.{Piece, Tells}
 use Rattle.tbl_reader.proofs.Counting.{cut_few, page_few}
 use Rattle.tbl_reader.proofs.Hearing.{tells_append, tells_then}
-use Rattle.tbl_reader.proofs.Keeping.{Stays, fed_stays, end_stays}
+use Rattle.tbl_reader.proofs.Keeping.{fed_stays, end_stays}
 
 -- ---- what comes of a source
 
@@ -95,59 +95,59 @@ emitted-fed shows hears xs ys p q a b c same h k =
 
 -- ---- a run goes on
 
-pub Stands-took : {A S : Type 0} (shows : A → S → Type 0) (hears : Piece → S → S) (l : Limits) (cells : ℕ) (first a b : Option Supply) (p q : Page) (old now new : A) (taken n : ℕ)
-    → Stands shows hears l cells first a p old now taken → Took shows hears a b p q now new n → Stands shows hears l cells first b q old new (taken + n)
-Stands-took shows hears l cells first a b p q old now new taken n s t = record {
+pub Stands-took : {A S : Type 0} (shows : A → S → Type 0) (hears : Piece → S → S) (l : Limits) (first a b : Option Supply) (p q : Page) (old now new : A) (taken n : ℕ)
+    → Stands shows hears l first a p old now taken → Took shows hears a b p q now new n → Stands shows hears l first b q old new (taken + n)
+Stands-took shows hears l first a b p q old now new taken n s t = record {
   bytes = s.bytes ++ t.bytes;
   came = Came-trans first a b s.bytes t.bytes s.came t.came;
   count = (let both = length-append s.bytes t.bytes in let x = s.count in let y = t.count in omega (arith, both, x, y));
-  page = page-fed s.bytes t.bytes (first_page l cells) p q s.page t.page;
-  emitted = emitted-fed shows hears s.bytes t.bytes (first_page l cells) p old now new s.page s.emitted t.emitted;
+  page = page-fed s.bytes t.bytes (first_page l) p q s.page t.page;
+  emitted = emitted-fed shows hears s.bytes t.bytes (first_page l) p old now new s.page s.emitted t.emitted;
   fits = t.fits;
   lines = (let x = s.lines in let y = t.lines in omega (arith, x, y));
 }
 
 -- with the end all was emitted
-pub emitted-all : {A S : Type 0} (shows : A → S → Type 0) (hears : Piece → S → S) (l : Limits) (cells : ℕ) (first a b : Option Supply) (p q : Page) (old now new : A) (taken : ℕ)
-    → (s : Stands shows hears l cells first a p old now taken) → Ended shows hears a b p q now new → Tells shows hears (page_said l cells s.bytes) old new
-emitted-all shows hears l cells first a b p q old now new taken s e =
-    tells_then shows hears (fed s.bytes (first_page l cells)) finished p old now new s.page s.emitted e.emitted
+pub emitted-all : {A S : Type 0} (shows : A → S → Type 0) (hears : Piece → S → S) (l : Limits) (first a b : Option Supply) (p q : Page) (old now new : A) (taken : ℕ)
+    → (s : Stands shows hears l first a p old now taken) → Ended shows hears a b p q now new → Tells shows hears (page_said l s.bytes) old new
+emitted-all shows hears l first a b p q old now new taken s e =
+    tells_then shows hears (fed s.bytes (first_page l)) finished p old now new s.page s.emitted e.emitted
 
-pub Ran-done : {A S : Type 0} (shows : A → S → Type 0) (hears : Piece → S → S) (l : Limits) (cells : ℕ) (first a b : Option Supply) (p q : Page) (old now new : A) (taken : ℕ)
-    → Stands shows hears l cells first a p old now taken → Ended shows hears a b p q now new → IsDone shows hears l cells first b old new
-Ran-done shows hears l cells first a b p q old now new taken s e = record {
+pub Ran-done : {A S : Type 0} (shows : A → S → Type 0) (hears : Piece → S → S) (l : Limits) (first a b : Option Supply) (p q : Page) (old now new : A) (taken : ℕ)
+    → Stands shows hears l first a p old now taken → Ended shows hears a b p q now new → IsDone shows hears l first b old new
+Ran-done shows hears l first a b p q old now new taken s e = record {
   bytes = s.bytes;
   came = Came-then_nothing first a b s.bytes s.came e.came;
   ends = Ends-after first a b s.bytes s.came e.ends;
-  emitted = emitted-all shows hears l cells first a b p q old now new taken s e;
-  few = page_few l cells s.bytes;
+  emitted = emitted-all shows hears l first a b p q old now new taken s e;
+  few = page_few l s.bytes;
 }
 
-pub Ran-fault : {A S : Type 0} (shows : A → S → Type 0) (hears : Piece → S → S) (l : Limits) (cells : ℕ) (first a b : Option Supply) (p q : Page) (old now new : A) (taken : ℕ)
-    → Stands shows hears l cells first a p old now taken → Took shows hears a b p q now new 0 → IsCut shows hears l cells first b old new taken
-Ran-fault shows hears l cells first a b p q old now new taken s t =
-    let on = Stands-took shows hears l cells first a b p q old now new taken 0 s t in
-    record { bytes = on.bytes; came = on.came; count = (let n = on.count in omega (arith, n)); emitted = on.emitted; few = cut_few l cells on.bytes }
+pub Ran-fault : {A S : Type 0} (shows : A → S → Type 0) (hears : Piece → S → S) (l : Limits) (first a b : Option Supply) (p q : Page) (old now new : A) (taken : ℕ)
+    → Stands shows hears l first a p old now taken → Took shows hears a b p q now new 0 → IsCut shows hears l first b old new taken
+Ran-fault shows hears l first a b p q old now new taken s t =
+    let on = Stands-took shows hears l first a b p q old now new taken 0 s t in
+    record { bytes = on.bytes; came = on.came; count = (let n = on.count in omega (arith, n)); emitted = on.emitted; few = cut_few l on.bytes }
 
-pub Ran-long : {A S : Type 0} (shows : A → S → Type 0) (hears : Piece → S → S) (l : Limits) (cells : ℕ) (first a : Option Supply) (p : Page) (old now : A) (taken : ℕ)
-    → Stands shows hears l cells first a p old now taken → taken ≡ 1099511627776 → IsCut shows hears l cells first a old now 1099511627776
-Ran-long shows hears l cells first a p old now taken s all = record { bytes = s.bytes; came = s.came; count = s.count ∙ all; emitted = s.emitted; few = cut_few l cells s.bytes }
+pub Ran-long : {A S : Type 0} (shows : A → S → Type 0) (hears : Piece → S → S) (l : Limits) (first a : Option Supply) (p : Page) (old now : A) (taken : ℕ)
+    → Stands shows hears l first a p old now taken → taken ≡ 1099511627776 → IsCut shows hears l first a old now 1099511627776
+Ran-long shows hears l first a p old now taken s all = record { bytes = s.bytes; came = s.came; count = s.count ∙ all; emitted = s.emitted; few = cut_few l s.bytes }
 
 -- one who heard what a turn says could not put out all of it
-pub Ran-broken : {A S : Type 0} (shows : A → S → Type 0) (hears : Piece → S → S) (l : Limits) (cells : ℕ) (first a b : Option Supply) (p q : Page) (old now new : A) (taken : ℕ) (turn : TurnResult)
-    → Stands shows hears l cells first a p old now taken → Turns shows hears a b p q now new turn → IsBroken shows hears l cells first b old new
-Ran-broken shows hears l cells first a b p q old now new taken (turns.Took n) s t =
-    let on = Stands-took shows hears l cells first a b p q old now new taken n s t in
-    record { bytes = on.bytes; came = on.came; emitted = inl on.emitted; few = page_few l cells on.bytes }
-Ran-broken shows hears l cells first a b p q old now new taken turns.End s t = record {
+pub Ran-broken : {A S : Type 0} (shows : A → S → Type 0) (hears : Piece → S → S) (l : Limits) (first a b : Option Supply) (p q : Page) (old now new : A) (taken : ℕ) (turn : TurnResult)
+    → Stands shows hears l first a p old now taken → Turns shows hears a b p q now new turn → IsBroken shows hears l first b old new
+Ran-broken shows hears l first a b p q old now new taken (turns.Took n) s t =
+    let on = Stands-took shows hears l first a b p q old now new taken n s t in
+    record { bytes = on.bytes; came = on.came; emitted = inl on.emitted; few = page_few l on.bytes }
+Ran-broken shows hears l first a b p q old now new taken turns.End s t = record {
   bytes = s.bytes;
   came = Came-then_nothing first a b s.bytes s.came t.came;
-  emitted = inr (emitted-all shows hears l cells first a b p q old now new taken s t);
-  few = page_few l cells s.bytes;
+  emitted = inr (emitted-all shows hears l first a b p q old now new taken s t);
+  few = page_few l s.bytes;
 }
-Ran-broken shows hears l cells first a b p q old now new taken turns.ReadFault s t =
-    let on = Stands-took shows hears l cells first a b p q old now new taken 0 s t in
-    record { bytes = on.bytes; came = on.came; emitted = inl on.emitted; few = page_few l cells on.bytes }
+Ran-broken shows hears l first a b p q old now new taken turns.ReadFault s t =
+    let on = Stands-took shows hears l first a b p q old now new taken 0 s t in
+    record { bytes = on.bytes; came = on.came; emitted = inl on.emitted; few = page_few l on.bytes }
 
 -- ---- a turn
 
@@ -237,24 +237,24 @@ Took-after shows hears a b c p q r old now new n m zero_is s t =
 
 -- ---- what stays
 
-pub Stands-stays : {A S : Type 0} (shows : A → S → Type 0) (hears : Piece → S → S) (l : Limits) (cells : ℕ) (first a : Option Supply) (p : Page) (old now : A) (taken : ℕ)
-    → Stands shows hears l cells first a p old now taken → Stays l cells p
-Stands-stays shows hears l cells first a p old now taken s = fed_stays l cells s.bytes p s.page
+pub Stands-stays : {A S : Type 0} (shows : A → S → Type 0) (hears : Piece → S → S) (l : Limits) (first a : Option Supply) (p : Page) (old now : A) (taken : ℕ)
+    → Stands shows hears l first a p old now taken → p.limits ≡ l
+Stands-stays shows hears l first a p old now taken s = fed_stays l s.bytes p s.page
 
-pub Turns-stay : {A S : Type 0} (shows : A → S → Type 0) (hears : Piece → S → S) (l : Limits) (cells : ℕ) (first a b : Option Supply) (p q : Page) (old now new : A) (taken : ℕ) (turn : TurnResult)
-    → Stands shows hears l cells first a p old now taken → Turns shows hears a b p q now new turn → Stays l cells q
-Turns-stay shows hears l cells first a b p q old now new taken (turns.Took n) s t =
-    Stands-stays shows hears l cells first b q old new (taken + n) (Stands-took shows hears l cells first a b p q old now new taken n s t)
-Turns-stay shows hears l cells first a b p q old now new taken turns.End s t =
-    end_stays l cells p q s.fits (Stands-stays shows hears l cells first a p old now taken s) t.page
-Turns-stay shows hears l cells first a b p q old now new taken turns.ReadFault s t =
-    Stands-stays shows hears l cells first b q old new (taken + 0) (Stands-took shows hears l cells first a b p q old now new taken 0 s t)
+pub Turns-stay : {A S : Type 0} (shows : A → S → Type 0) (hears : Piece → S → S) (l : Limits) (first a b : Option Supply) (p q : Page) (old now new : A) (taken : ℕ) (turn : TurnResult)
+    → Stands shows hears l first a p old now taken → Turns shows hears a b p q now new turn → q.limits ≡ l
+Turns-stay shows hears l first a b p q old now new taken (turns.Took n) s t =
+    Stands-stays shows hears l first b q old new (taken + n) (Stands-took shows hears l first a b p q old now new taken n s t)
+Turns-stay shows hears l first a b p q old now new taken turns.End s t =
+    end_stays p q s.fits t.page ∙ Stands-stays shows hears l first a p old now taken s
+Turns-stay shows hears l first a b p q old now new taken turns.ReadFault s t =
+    Stands-stays shows hears l first b q old new (taken + 0) (Stands-took shows hears l first a b p q old now new taken 0 s t)
 
 -- ---- where a run begins
 
-pub Stands-first : {A S : Type 0} (shows : A → S → Type 0) (hears : Piece → S → S) (l : Limits) (cells : ℕ) (a : Option Supply) (p : Page) (old : A)
-    → p ≡ first_page l cells → Stands shows hears l cells a a p old old 0
-Stands-first shows hears l cells a p old page = record {
+pub Stands-first : {A S : Type 0} (shows : A → S → Type 0) (hears : Piece → S → S) (l : Limits) (a : Option Supply) (p : Page) (old : A)
+    → p ≡ first_page l → Stands shows hears l a a p old old 0
+Stands-first shows hears l a p old page = record {
   bytes = [];
   came = Came-nil a;
   count = refl;

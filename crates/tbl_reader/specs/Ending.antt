@@ -91,11 +91,10 @@ abbrev pub GoesOn : Option ℕ → Page → Page → Type 0
 GoesOn None p q = q.limits ≡ p.limits
 GoesOn (Some b) p q = (q.limits ≡ p.limits) × Fits q × (q.state.line ≤ p.state.line + 1)
 
--- ---- the definition: what is said of all bytes of an input, where so many bytes are kept and the line has so many cells
+-- ---- the definition: what is said of all bytes of an input, where so many bytes are kept
 
-abbrev pub first_page : Limits → ℕ → Page
-first_page limits cells =
-    record { state = first_state cells; limits = limits; kept = []; from = 0; start = 0 }
+abbrev pub first_page : Limits → Page
+first_page limits = record { state = first_state; limits = limits; kept = []; from = 0; start = 0 }
 
-abbrev pub page_said : Limits → ℕ → List ℕ → List Piece
-page_said limits cells input = (and_then (fed input (first_page limits cells)) finished).pieces
+abbrev pub page_said : Limits → List ℕ → List Piece
+page_said limits input = (and_then (fed input (first_page limits)) finished).pieces

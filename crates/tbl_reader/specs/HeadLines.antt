@@ -13,15 +13,12 @@ use Rattle.tbl_reader.specs.declared.telling.Tell.TheVariants as tells
 use Rattle.tbl_reader.specs.Commands.{is_command}
 use Rattle.tbl_reader.specs.Formats.{read}
 use Rattle.tbl_reader.specs.Heads.{options_end, is_dotted}
-use Rattle.tbl_reader.specs.Measure.{with_formats as measured}
 use Rattle.tbl_reader.specs.Options.{options_of}
 use Rattle.tbl_reader.specs.Outside.{given_up}
 use Rattle.tbl_reader.specs.Pages.{Page, Effect, effect, and_then, with_state, at_mode, rest_of, line_of, wrong}
 use Rattle.tbl_reader.specs.RowLines.{rows_begun}
-use Rattle.tbl_reader.specs.States.{wrong_with, with_formats}
+use Rattle.tbl_reader.specs.States.{wrong_with}
 use Rattle.tbl_reader.specs.Telling.{Piece, piece}
-use Rattle.tbl_reader.specs.Widths.{widths_of}
-use Rattle.tbl_reader.specs.declared.widths.Line.{Line}
 
 -- the table isn't set, and a line ends
 abbrev pub given_up_line : Kind → Page → Effect
@@ -72,10 +69,6 @@ abbrev pub formats_said : Formats → List ℕ → List Piece
 formats_said f [] = []
 formats_said f (b ∷ bs) = let r = read b f in piece (tells.Format r.called) [] ∷ formats_said r.formats bs
 
--- the widths that a text of formats says count
-abbrev pub measured_with : List ℕ → State → State
-measured_with text s = record s { measure = measured s.options.expand (widths_of text s.formats) s.measure }
-
 -- what becomes of the table by what is wrong with them
 abbrev pub formats_judged : Option Kind → Page → Effect
 formats_judged (Some NoFormat) p = given_up_line NoFormat p
@@ -84,14 +77,11 @@ formats_judged (Some kind) p = effect (rows_begun p) (wrong kind p.state ∷ [])
 formats_judged None p = effect (rows_begun p) []
 
 -- these formats were read: what is wrong with them, and what is known then
-abbrev pub widths_in : Page → Line
-widths_in p = (widths_of (rest_of p) p.state.formats).last
-
 abbrev pub wrong_in : Formats → Page → Option Kind
-wrong_in f p = wrong_with f (widths_in p) (measured_with (rest_of p) p.state)
+wrong_in f p = wrong_with f p.state.formats.lines
 
 abbrev pub formats_taken : Formats → Page → Page
-formats_taken f p = with_state (with_formats f (widths_in p) (measured_with (rest_of p) p.state)) p
+formats_taken f p = with_state (record p.state { formats = f }) p
 
 -- the formats end, and rows begin with the next line
 abbrev pub formats_ended : Page → Effect

@@ -5,7 +5,6 @@ pub mod Fields
 pub mod Formats
 pub mod HeadLines
 pub mod Heads
-pub mod Measure
 pub mod Numbers
 pub mod Options
 pub mod Outside
@@ -19,4 +18,3 @@ pub mod States
 pub mod Telling
 pub mod Untouched
 pub mod Whole
-pub mod Widths

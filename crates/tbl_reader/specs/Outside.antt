@@ -16,7 +16,7 @@ use Rattle.tbl_reader.specs.Pages.{Page, Effect, effect, with_state, at_mode, li
 -- one ends that is `.TS`, or another
 abbrev pub line_passed : Bool → Page → Effect
 line_passed true p =
-    effect (forgotten (with_state (table_begun (line_counted p.state)) p)) (piece tells.Table [] ∷ [])
+    effect (forgotten (with_state (line_counted (table_begun p.state)) p)) (piece (tells.Table p.state.line) [] ∷ [])
 line_passed false p =
     effect (with_state (record p.state { line = p.state.line + 1; mode = modes.Passing Nothing }) p) []
 

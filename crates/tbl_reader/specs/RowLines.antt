@@ -3,7 +3,7 @@
 use Rattle.std.specs.Prelude.{ℕ, zero, suc, ◌+◌, ◌-◌, List, [], ◌∷◌, ◌++◌, length, take, drop, Bool, true, not, ◌==◌, ◌&&◌, if◌then◌else◌, nat_lt, Option, None, Some}
 use Prim.Native.Char.{code}
 use Rattle.tbl_reader.specs.declared.command.Start.TheVariants.{Nothing, Other}
-use Rattle.tbl_reader.specs.declared.complaint.Kind.TheVariants.{TooManyFields, RowLimit, TooWide}
+use Rattle.tbl_reader.specs.declared.complaint.Kind.TheVariants.{TooManyFields, RowLimit}
 use Rattle.tbl_reader.specs.declared.field.Mark.TheVariants as marks
 use Rattle.tbl_reader.specs.declared.field.Shape.{Shape}
 use Rattle.tbl_reader.specs.declared.field.Shape.TheVariants as shapes
@@ -12,10 +12,9 @@ use Rattle.tbl_reader.specs.declared.state.State.{State}
 use Rattle.tbl_reader.specs.declared.telling.Tell.TheVariants as tells
 use Rattle.tbl_reader.specs.Commands.{is_command}
 use Rattle.tbl_reader.specs.Fields.{shape_of, without_blanks_before, marks_of, is_request, place_of, cleaned, continues}
-use Rattle.tbl_reader.specs.Measure.{cells_of}
 use Rattle.tbl_reader.specs.Numbers.{prefix}
 use Rattle.tbl_reader.specs.Pages.{Page, Effect, effect, and_then, with_state, at_mode, forgotten, rest_of, line_of, wrong}
-use Rattle.tbl_reader.specs.States.{block_opened, formats_begun, row_begun, field_counted, is_beyond, passes_line, cells_taken}
+use Rattle.tbl_reader.specs.States.{block_opened, formats_begun, row_begun, field_counted, is_beyond}
 use Rattle.tbl_reader.specs.Telling.{Piece, piece, each}
 
 -- ---- fields
@@ -40,28 +39,19 @@ solid s text = if s.options.nospaces then take (marks_of s.options.point text).s
 abbrev pub prefix_of : State → List ℕ → Option ℕ
 prefix_of s text = if s.formats.numeric then prefix (marks_of s.options.point text) else None
 
-abbrev pub widths_wrong : Bool → State → List Piece
-widths_wrong wide s = if wide then wrong TooWide s ∷ [] else []
+-- a field of text
+abbrev pub text_said : State → List ℕ → Piece
+text_said s text = piece (tells.Field (prefix_of s text)) (solid s text)
 
--- a field of text; one after the columns takes no room of the line
-abbrev pub text_said : State → List ℕ → Said
-text_said s text =
-    let cells = cells_of (solid s text) in
-    let field = piece (tells.Field (prefix_of s text)) (solid s text) in
-    if is_beyond s then saying s (field ∷ [])
-    else saying (cells_taken cells s) (field ∷ widths_wrong (passes_line cells s) s)
-
-abbrev pub shape_said : Shape → State → List ℕ → Said
-shape_said shapes.Empty s text = saying s (piece (tells.Mark marks.Nothing) [] ∷ [])
-shape_said (shapes.Mark mark) s text = saying s (piece (tells.Mark mark) [] ∷ [])
+abbrev pub shape_said : Shape → State → List ℕ → Piece
+shape_said shapes.Empty s text = piece (tells.Mark marks.Nothing) []
+shape_said (shapes.Mark mark) s text = piece (tells.Mark mark) []
 shape_said shape s text = text_said s text
 
 -- a field in a column
 abbrev pub field_said : State → List ℕ → Said
 field_said s text =
-    let t = trimmed s text in
-    let said = shape_said (shape_of t) s t in
-    saying (field_counted said.state) said.pieces
+    let t = trimmed s text in saying (field_counted s) (shape_said (shape_of t) s t ∷ [])
 
 -- nothing but what separates fields: they are all empty
 abbrev pub are_empty : ℕ → List ℕ → Bool
@@ -73,8 +63,7 @@ abbrev pub last_said : State → List ℕ → Said
 last_said s text =
     if not (is_beyond s) then field_said s text else
     let t = trimmed s text in
-    if are_empty s.options.tab t then saying s [] else
-    let said = text_said s t in saying said.state (wrong TooManyFields s ∷ said.pieces)
+    if are_empty s.options.tab t then saying s [] else saying s (wrong TooManyFields s ∷ text_said s t ∷ [])
 
 -- ---- the fields of a line that something ends that separates them, of so many columns
 

@@ -61,50 +61,50 @@ is_fault turn = false
 -- ---- a run
 
 -- where a run stands that took these bytes
-pub record Stands {A S : Type 0} (shows : A → S → Type 0) (hears : Piece → S → S) (l : Limits) (cells : ℕ)
+pub record Stands {A S : Type 0} (shows : A → S → Type 0) (hears : Piece → S → S) (l : Limits)
     (first supply : Option Supply) (p : Page) (old now : A) (taken : ℕ) : Type 0 where
   pub bytes : List ℕ
   pub came : Came first bytes supply
   pub count : length bytes ≡ taken
-  pub page : p ≡ (fed bytes (first_page l cells)).page
-  pub emitted : Tells shows hears (fed bytes (first_page l cells)).pieces old now
+  pub page : p ≡ (fed bytes (first_page l)).page
+  pub emitted : Tells shows hears (fed bytes (first_page l)).pieces old now
   pub fits : Fits p
   pub lines : p.state.line ≤ taken + 1
 
 -- all bytes came, and what they say was emitted: sixteen pieces for each at most, and as many more
-pub record IsDone {A S : Type 0} (shows : A → S → Type 0) (hears : Piece → S → S) (l : Limits) (cells : ℕ)
+pub record IsDone {A S : Type 0} (shows : A → S → Type 0) (hears : Piece → S → S) (l : Limits)
     (first last : Option Supply) (old new : A) : Type 0 where
   pub bytes : List ℕ
   pub came : Came first bytes last
   pub ends : Ends first last
-  pub emitted : Tells shows hears (page_said l cells bytes) old new
-  pub few : length (page_said l cells bytes) ≤ 16 * (length bytes + 1)
+  pub emitted : Tells shows hears (page_said l bytes) old new
+  pub few : length (page_said l bytes) ≤ 16 * (length bytes + 1)
 
 -- so many bytes came, and what they say was emitted, but of what is half read
-pub record IsCut {A S : Type 0} (shows : A → S → Type 0) (hears : Piece → S → S) (l : Limits) (cells : ℕ)
+pub record IsCut {A S : Type 0} (shows : A → S → Type 0) (hears : Piece → S → S) (l : Limits)
     (first last : Option Supply) (old new : A) (at : ℕ) : Type 0 where
   pub bytes : List ℕ
   pub came : Came first bytes last
   pub count : length bytes ≡ at
-  pub emitted : Tells shows hears (fed bytes (first_page l cells)).pieces old new
-  pub few : length (fed bytes (first_page l cells)).pieces ≤ 16 * length bytes
+  pub emitted : Tells shows hears (fed bytes (first_page l)).pieces old new
+  pub few : length (fed bytes (first_page l)).pieces ≤ 16 * length bytes
 
 -- some bytes came, and what they say was emitted, without the end or with it, to one who could not put all of it out
-pub record IsBroken {A S : Type 0} (shows : A → S → Type 0) (hears : Piece → S → S) (l : Limits) (cells : ℕ)
+pub record IsBroken {A S : Type 0} (shows : A → S → Type 0) (hears : Piece → S → S) (l : Limits)
     (first last : Option Supply) (old new : A) : Type 0 where
   pub bytes : List ℕ
   pub came : Came first bytes last
-  pub emitted : Tells shows hears (fed bytes (first_page l cells)).pieces old new ⊎ Tells shows hears
-      (page_said l cells bytes) old new
-  pub few : length (page_said l cells bytes) ≤ 16 * (length bytes + 1)
+  pub emitted : Tells shows hears (fed bytes (first_page l)).pieces old new ⊎ Tells shows hears
+      (page_said l bytes) old new
+  pub few : length (page_said l bytes) ≤ 16 * (length bytes + 1)
 
-abbrev pub Ran : {A S : Type 0} → (A → S → Type 0) → (Piece → S → S) → Limits → ℕ → Option Supply
-    → Option Supply → A → A → ReadEnd → Type 0
-Ran shows hears l cells first last old new Done = IsDone shows hears l cells first last old new
-Ran shows hears l cells first last old new (ReadFault at) = IsCut shows hears l cells first last old new at
-Ran shows hears l cells first last old new TooLong =
-    IsCut shows hears l cells first last old new 1099511627776
-Ran shows hears l cells first last old new WriteFault = IsBroken shows hears l cells first last old new
+abbrev pub Ran : {A S : Type 0} → (A → S → Type 0) → (Piece → S → S) → Limits → Option Supply → Option Supply
+    → A → A → ReadEnd → Type 0
+Ran shows hears l first last old new Done = IsDone shows hears l first last old new
+Ran shows hears l first last old new (ReadFault at) = IsCut shows hears l first last old new at
+Ran shows hears l first last old new TooLong =
+    IsCut shows hears l first last old new 1099511627776
+Ran shows hears l first last old new WriteFault = IsBroken shows hears l first last old new
 
 abbrev pub is_write_fault : ReadEnd → Bool
 is_write_fault WriteFault = true

@@ -26,8 +26,7 @@ pub enum Kind {
     FormatsLimit,
     /// More bytes of a row than are kept: the rest of the table goes out as plain lines.
     RowLimit,
-    /// The table is surely wider than the line, by its formats or by a row; one that is narrowed stays wider, narrowed as far as
-    /// it may be.
+    /// The table that begins with `.TS` on the complaint's line is wider than the line of the page, narrowed or not.
     TooWide,
     /// This request of a text block, of whose name so much is reported, isn't set: it does nothing there, and the words of a
     /// macro are text.

@@ -3,6 +3,7 @@ ghost use Rattle.std.specs.Prelude.{◌≡◌, ◌<◌, length, IfSome, Some};
 ghost use Rattle.tbl_reader.specs.Heads as specs;
 ghost use Rattle.tbl_reader.specs.HeadLines as lines;
 ghost use Rattle.tbl_reader.specs.Outside.{given_up};
+ghost use Rattle.tbl_reader.specs.States.{wrong_with};
 ghost use Rattle.tbl_reader.specs.Telling.{Tells};
 ghost use Rattle.tbl_reader.specs.declared.complaint.Kind.TheVariants.{FormatsLimit};
 
@@ -13,7 +14,6 @@ use super::options::options_of;
 use super::reader::Reader;
 use super::state::Mode;
 use super::telling::{Setter, Tell};
-use super::widths::widths_of;
 
 /// Where the semicolon stands that ends the options: none does after an opening parenthesis.
 fn options_end(line: &[u8]) -> Option<usize>
@@ -55,6 +55,23 @@ fn tell_formats<S: Setter>(first: Formats, text: &[u8], setter: &mut S) -> Forma
     let called = formats.read(b'\n');
     setter.tell(Tell::Format(called), b"");
     formats
+}
+
+/// What is wrong with formats, after so many lines of formats.
+fn wrong_with(formats: &Formats, before: usize) -> Option<Kind>
+    ensures { result ≡ wrong_with formats.now before }
+{
+    if formats.columns == 0 {
+        return Some(Kind::NoFormat);
+    }
+    if formats.many {
+        return Some(Kind::TooManyColumns);
+    }
+    match formats.bad {
+        Some(byte) => Some(Kind::BadFormat(byte)),
+        None if formats.lines == before => Some(Kind::BadFormat(b'.')),
+        None => None,
+    }
 }
 
 impl Reader {
@@ -130,12 +147,9 @@ impl Reader {
         ensures wrong { result ≡ lines.wrong_in formats self.old }
         ensures page { self.new ≡ lines.formats_taken formats self.old }
     {
-        let widths = widths_of(self.state.formats, self.rest());
-        self.state.measure = self
-            .state
-            .measure
-            .with_formats(self.state.options.expand, widths);
-        self.state.with_formats(formats, widths.last)
+        let wrong = wrong_with(&formats, self.state.formats.lines);
+        self.state.formats = formats;
+        wrong
     }
 
     /// This is wrong with the formats, or nothing: rows begin with the next line, or the table isn't set.

@@ -1,7 +1,7 @@
 //! tbl: the tables of a page are read, and what they say is emitted to who sets them.
 //!
 //! It stands on nr_units, nr_vectors, tbl_blocks and tbl_table. To read: `complaint`, `passing`, `command`; `options`, `numbers`, `formats`,
-//! `widths`, `measure`, `field`; `telling`, `state`, `reader`, `head`, `rows`, `blocks`, `ending`, `quiet`;
+//! `field`; `telling`, `state`, `reader`, `head`, `rows`, `blocks`, `ending`, `quiet`;
 //! `running`; `untouched`.
 #![tactic(auto)]
 
@@ -12,7 +12,6 @@ mod ending;
 mod field;
 mod formats;
 mod head;
-mod measure;
 mod numbers;
 mod options;
 mod passing;
@@ -23,7 +22,6 @@ mod running;
 mod state;
 mod telling;
 mod untouched;
-mod widths;
 
 pub use complaint::{Complaint, Kind};
 pub use field::Mark;

@@ -59,21 +59,20 @@ impl Model for Reader {
 }
 
 impl Reader {
-    /// Takes the memory for what is kept, where the line has so many cells.
+    /// Takes the memory for what is kept.
     ///
     /// Proved: A page is read with one byte of memory more than the greater of the two limits, by the count of the
     /// allocator. (`taken` of what `Reader::new` ensures)
-    pub fn new(alloc: &mut CountedAlloc, limits: Limits, cells: usize) -> Result<Reader, AllocError>
+    pub fn new(alloc: &mut CountedAlloc, limits: Limits) -> Result<Reader, AllocError>
         ensures formats { IfOk result
             (λ made. made.limits.formats ≡ min limits.formats 18446744073709551614) }
         ensures row { IfOk result (λ made. made.limits.row ≡ min limits.row 18446744073709551614) }
-        ensures line { IfOk result (λ made. made.state.measure.line ≡ cells) }
         ensures taken { IfOk result (λ made. alloc.new ≡ alloc.old + memory_of made.limits) }
     {
         let room = limits.formats.max(limits.row).saturating_add(1);
         let kept = FixedVec::new(alloc, room)?;
         Ok(Reader {
-            state: State::new(cells),
+            state: State::new(),
             limits: Limits {
                 formats: limits.formats.min(room - 1),
                 row: limits.row.min(room - 1),
@@ -86,9 +85,9 @@ impl Reader {
 
     /// A page begins.
     pub fn begins(&mut self)
-        ensures { self.new ≡ forgotten (with_state (first_state self.old.state.measure.line) self.old) }
+        ensures { self.new ≡ forgotten (with_state first_state self.old) }
     {
-        self.state = State::new(self.state.measure.line);
+        self.state = State::new();
         self.forgets();
     }
 
@@ -208,13 +207,13 @@ impl Reader {
         ensures emitted { Tells S.shows S.hears (specs.line_passed (begins_command start) self.old).pieces
             setter.old setter.new }
     {
-        self.state.line += 1;
         self.state.mode = Mode::Passing(Start::Nothing);
         if start.is_command() {
             self.state.begins_table();
             self.forgets();
-            setter.tell(Tell::Table, b"");
+            setter.tell(Tell::Table(self.state.begun), b"");
         }
+        self.state.line += 1;
     }
 
     /// Bytes of lines of a table that isn't set.

@@ -8,7 +8,6 @@ ghost use Rattle.tbl_reader.specs.Telling.{Tells};
 use super::command::{Start, is_command};
 use super::complaint::Kind;
 use super::field::{Mark, Shape, marks_of, shape_of, without_blanks_before};
-use super::measure::cells_of;
 use super::numbers::is_digit;
 use super::reader::{Reader, tail_from};
 use super::state::{Mode, State};
@@ -167,23 +166,15 @@ impl State {
     }
 
     /// A field of text is emitted.
-    fn tell_text<S: Setter>(&mut self, text: &[u8], setter: &mut S)
-        ensures state { self.new ≡ (lines.text_said self.old text.now).state }
-        ensures emitted { Tells S.shows S.hears (lines.text_said self.old text.now).pieces setter.old
-            setter.new }
+    fn tell_text<S: Setter>(&self, text: &[u8], setter: &mut S)
+        ensures { Tells S.shows S.hears (lines.text_said self.now text.now ∷ []) setter.old setter.new }
     {
-        let solid = self.solid(text);
-        setter.tell(Tell::Field(self.prefix(text)), solid);
-        if !self.is_beyond() && self.passes_line(cells_of(solid)) {
-            self.complains(Kind::TooWide, setter);
-        }
+        setter.tell(Tell::Field(self.prefix(text)), self.solid(text));
     }
 
     /// A field of this shape is emitted.
-    fn tell_shape<S: Setter>(&mut self, shape: Shape, text: &[u8], setter: &mut S)
-        ensures state { self.new ≡ (lines.shape_said shape self.old text.now).state }
-        ensures emitted { Tells S.shows S.hears (lines.shape_said shape self.old text.now).pieces setter.old
-            setter.new }
+    fn tell_shape<S: Setter>(&self, shape: Shape, text: &[u8], setter: &mut S)
+        ensures { Tells S.shows S.hears (lines.shape_said shape self.now text.now ∷ []) setter.old setter.new }
     {
         match shape {
             Shape::Empty => setter.tell(Tell::Mark(Mark::Nothing), b""),

@@ -103,7 +103,7 @@ fn make_turn<R: Source, S: Setter>(
 /// What is emitted is one function of the bytes that came, however they came. At a read fault, and where the input is too long,
 /// it is that of the bytes before, but for what is half read. Where the setter fails, no more is read.
 ///
-/// Proved: What is said of a page is one function of the bytes that came, of the two limits and of the line's length,
+/// Proved: What is said of a page is one function of the bytes that came and of the two limits,
 /// however the bytes came: `page_said`, a list of pieces, of which a setter hears one after the other.
 /// Proved: At a read fault, and where the input is too long, what the bytes before say was heard, but for what is
 /// half read; where the setter fails, no more is read.
@@ -117,17 +117,15 @@ pub fn read_page<R: Source, S: Setter>(
     input: &mut R,
     setter: &mut S,
 ) -> ReadEnd
-    ensures ran { specs.Ran S.shows S.hears reader.old.limits reader.old.state.measure.line
-        (R.supply input.old) (R.supply input.new) setter.old setter.new result }
+    ensures ran { specs.Ran S.shows S.hears reader.old.limits (R.supply input.old) (R.supply input.new) setter.old setter.new result }
     // A read fault is emitted only where the source failed once, and then always, but where the setter fails too.
     ensures read_faults { specs.TellsReads result (R.failures input.old) (R.failures input.new) }
     ensures write_faults { S.failed setter.new ≡ specs.is_write_fault result }
     // Whole lines are read: those outside of tables pass, and those of a table that there is room for are taken as wholes.
     ensures passing { LinesPass }
     ensures reading { LinesAreRead }
-    // The next page is read by the same limits, with a line of as many cells.
+    // The next page is read by the same limits.
     ensures limits { reader.new.limits ≡ reader.old.limits }
-    ensures line { reader.new.state.measure.line ≡ reader.old.state.measure.line }
 {
     reader.begins();
     let mut taken = 0;

@@ -9,11 +9,9 @@ ghost use Rattle.tbl_reader.specs.declared.telling.Tell.TheVariants as tells;
 use super::command::Start;
 use super::complaint::{Complaint, Kind};
 use super::formats::Formats;
-use super::measure::Measure;
 use super::numbers::one_more;
 use super::options::Options;
 use super::telling::{Setter, Tell};
-use super::widths::Line;
 
 /// One more than the greatest number of columns.
 const MOST_FIELDS: usize = 65;
@@ -50,8 +48,6 @@ pub(crate) struct State {
     pub options: Options,
     /// Its formats.
     pub formats: Formats,
-    /// What it surely takes of the line.
-    pub measure: Measure,
     /// How many fields of the row have ended.
     pub fields: usize,
     /// The line of `.TS`.
@@ -61,9 +57,9 @@ pub(crate) struct State {
 }
 
 impl State {
-    /// A page begins, and the line has so many cells.
-    pub(crate) fn new(cells: usize) -> State
-        ensures { result ≡ specs.first_state cells }
+    /// A page begins.
+    pub(crate) fn new() -> State
+        ensures { result ≡ specs.first_state }
     {
         State {
             mode: Mode::Passing(Start::Nothing),
@@ -71,14 +67,13 @@ impl State {
             first: false,
             options: Options::new(),
             formats: Formats::new(0, 0, false),
-            measure: Measure::new(cells),
             fields: 0,
             begun: 0,
             block: 0,
         }
     }
 
-    /// A table begins with the next line.
+    /// This line begins a table.
     pub(crate) fn begins_table(&mut self)
         ensures { self.new ≡ specs.table_begun self.old }
     {
@@ -86,9 +81,8 @@ impl State {
         self.first = true;
         self.options = Options::new();
         self.formats = Formats::new(0, 0, false);
-        self.measure = Measure::new(self.measure.line);
         self.fields = 0;
-        self.begun = self.line.saturating_sub(1);
+        self.begun = self.line;
     }
 
     /// New formats begin with the next line.
@@ -110,7 +104,6 @@ impl State {
     {
         self.mode = Mode::Rows;
         self.fields = 0;
-        self.measure = self.measure.with_row();
     }
 
     /// A text block begins.
@@ -133,46 +126,6 @@ impl State {
         ensures { result ≡ specs.is_beyond self.now }
     {
         self.fields >= self.formats.columns
-    }
-
-    /// Whether a field of so many cells passes the end of the line, which is reported once; else it is taken.
-    pub(crate) fn passes_line(&mut self, cells: usize) -> bool
-        ensures emitted { result ≡ specs.passes_line cells self.old }
-        ensures state { self.new ≡ specs.cells_taken cells self.old }
-    {
-        if self.measure.overruns(cells) {
-            self.measure = self.measure.emitted();
-            return true;
-        }
-        self.measure = self.measure.taken(cells);
-        false
-    }
-
-    /// What is wrong with formats that were read, the last of which with widths is this line, after so many lines
-    /// of formats before them.
-    pub(crate) fn with_formats(&mut self, formats: Formats, line: Line) -> Option<Kind>
-        ensures wrong { result ≡ specs.wrong_with formats line self.old }
-        ensures state { self.new ≡ specs.with_formats formats line self.old }
-    {
-        let before = self.formats.lines;
-        self.formats = formats;
-        if formats.columns == 0 {
-            return Some(Kind::NoFormat);
-        }
-        if formats.many {
-            return Some(Kind::TooManyColumns);
-        }
-        if let Some(byte) = formats.bad {
-            return Some(Kind::BadFormat(byte));
-        }
-        if formats.lines == before {
-            return Some(Kind::BadFormat(b'.'));
-        }
-        if self.measure.is_wider(self.options.frame, line) {
-            self.measure = self.measure.emitted();
-            return Some(Kind::TooWide);
-        }
-        None
     }
 
     /// Tells the options of a table, and what is wrong with them.

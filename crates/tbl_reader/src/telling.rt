@@ -12,8 +12,8 @@ use super::options::Options;
 pub enum Tell {
     /// The text goes out as it is.
     Pass,
-    /// A table begins.
-    Table,
+    /// A table begins, with `.TS` on this line.
+    Table(u64),
     /// Its options.
     Options(Options),
     /// New formats begin.

@@ -1,5 +1,5 @@
 //! Text that goes out as it is.
-ghost use Rattle.std.specs.Prelude.{◌≡◌, ℕ, IsTrue};
+ghost use Rattle.std.specs.Prelude.{◌≡◌, IsTrue};
 ghost use Rattle.tbl_reader.specs.Ending.{page_said};
 ghost use Rattle.tbl_reader.specs.Telling.{each};
 ghost use Rattle.tbl_reader.specs.Untouched.{begins_table, is_untouched};
@@ -22,12 +22,11 @@ fn begins_table(bytes: &[u8]) -> bool
 /// Whether no line of a text begins a table, with `.TS` and its end or a byte that ends a name. Of such a text nothing is
 /// said but that it passes, byte for byte.
 ///
-/// Proved: Of a text in which no line is `.TS` nothing is said but that it passes, byte for byte, for all limits and
-/// lengths of the line. (`passes_unchanged`; it speaks of the definition `page_said`)
+/// Proved: Of a text in which no line is `.TS` nothing is said but that it passes, byte for byte, for all limits. (`passes_unchanged`; it speaks of the definition `page_said`)
 pub fn passes_unchanged(text: &[u8]) -> bool
     ensures value { result ≡ is_untouched text.now }
-    ensures law { IsTrue result → (limits : LimitsValue) (cells : ℕ)
-        → page_said limits cells text.now ≡ each Pass text.now }
+    ensures law { IsTrue result → (limits : LimitsValue)
+        → page_said limits text.now ≡ each Pass text.now }
 {
     let mut starts = true;
     for i in 0..text.len() {

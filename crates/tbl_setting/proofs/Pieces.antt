@@ -67,7 +67,7 @@ wrongs-each t (b ∷ bs) quiet s =
 pub wrongs-said : (t : Tell) (text : List ℕ) (s : Setting) → wrongs (said t text) s ≡ wrong_in t s
 wrongs-said tells.Pass text s = wrongs-each tells.Pass text (λ u. refl) s
 wrongs-said tells.BlockText text s = wrongs-each tells.BlockText text (λ u. refl) s
-wrongs-said tells.Table text s = refl
+wrongs-said (tells.Table line) text s = refl
 wrongs-said (tells.Options o) text s = refl
 wrongs-said tells.Formats text s = refl
 wrongs-said (tells.Format c) text s = refl
@@ -110,7 +110,7 @@ block-drawn (b ∷ bs) t =
 pub said-set : (tell : Tell) (text : List ℕ) (t : Setting) → set (said tell text) t ≡ set_in tell text t
 said-set tells.Pass text t = pass-set text t
 said-set tells.BlockText text t = block-set text t
-said-set tells.Table text t = refl
+said-set (tells.Table line) text t = refl
 said-set (tells.Options o) text t = refl
 said-set tells.Formats text t = refl
 said-set (tells.Format c) text t = refl
@@ -130,7 +130,7 @@ said-set (tells.Wrong c) text t = refl
 pub said-drawn : {a b : Tape} (tell : Tell) (text : List ℕ) (t : Setting) → Draws a b (strokes_in tell text t) → Draws a b (strokes (said tell text) t)
 said-drawn {a} tells.Pass text t d = draws_as (strokes (each tells.Pass text) t) d (pass-pen text t a.pen) (pass-bytes text t a.pen)
 said-drawn tells.BlockText text t d = draws_same d (block-drawn text t)
-said-drawn tells.Table text t d = draws_same d (append-nil (strokes_in tells.Table text t))
+said-drawn (tells.Table line) text t d = draws_same d (append-nil (strokes_in (tells.Table line) text t))
 said-drawn (tells.Options o) text t d = draws_same d (append-nil (strokes_in (tells.Options o) text t))
 said-drawn tells.Formats text t d = draws_same d (append-nil (strokes_in tells.Formats text t))
 said-drawn (tells.Format c) text t d = draws_same d (append-nil (strokes_in (tells.Format c) text t))

@@ -87,19 +87,19 @@ module _ {A : Type 0} (shows : A → Shown → Type 0) (old new : A) (w : Bounds
   either (inl emitted) = inl (part _ emitted)
   either (inr emitted) = inr (part _ emitted)
 
-  ran-whole : (o : ReadEnd) → reading.Ran shows hears w.limits w.cells first last old new o → b.failed ≡ false → b.pending ≡ [] → Ran w first last s.held b.held kept.now missed table.now.layout.uneven o
+  ran-whole : (o : ReadEnd) → reading.Ran shows hears w.limits first last old new o → b.failed ≡ false → b.pending ≡ [] → Ran w first last s.held b.held kept.now missed table.now.layout.uneven o
   ran-whole Done r live empty = record { bytes = r.bytes; came = r.came; ends = r.ends; puts = whole _ r.emitted live empty }
   ran-whole (ReadFault at) r live empty = record { bytes = r.bytes; came = r.came; count = r.count; puts = whole _ r.emitted live empty }
   ran-whole TooLong r live empty = record { bytes = r.bytes; came = r.came; count = r.count; puts = whole _ r.emitted live empty }
   ran-whole WriteFault r live empty = record { bytes = r.bytes; came = r.came; puts = either r.emitted }
 
-  broken : (o : ReadEnd) → reading.Ran shows hears w.limits w.cells first last old new o → IsBroken w first last s.held b.held kept.now missed table.now.layout.uneven
+  broken : (o : ReadEnd) → reading.Ran shows hears w.limits first last old new o → IsBroken w first last s.held b.held kept.now missed table.now.layout.uneven
   broken Done r = record { bytes = r.bytes; came = r.came; puts = inr (part _ r.emitted) }
   broken (ReadFault at) r = record { bytes = r.bytes; came = r.came; puts = inl (part _ r.emitted) }
   broken TooLong r = record { bytes = r.bytes; came = r.came; puts = inl (part _ r.emitted) }
   broken WriteFault r = record { bytes = r.bytes; came = r.came; puts = either r.emitted }
 
-  ran-ends : (wanted o : ReadEnd) → reading.Ran shows hears w.limits w.cells first last old new wanted → EndsAs wanted o b → Ran w first last s.held b.held kept.now missed table.now.layout.uneven o
+  ran-ends : (wanted o : ReadEnd) → reading.Ran shows hears w.limits first last old new wanted → EndsAs wanted o b → Ran w first last s.held b.held kept.now missed table.now.layout.uneven o
   ran-ends wanted o r (inl (same, live, empty)) =
       subst (λ x. Ran w first last s.held b.held kept.now missed table.now.layout.uneven x) (sym same) (ran-whole wanted r live empty)
   ran-ends wanted o r (inr (same, fails)) =
@@ -113,11 +113,11 @@ module _ {A : Type 0} (shows : A → Shown → Type 0) (old new : A) (w : Bounds
   heard-some ps qs (inl emitted) = heard-it ps emitted
   heard-some ps qs (inr emitted) = heard-it qs emitted
 
-  heard-all : (o : ReadEnd) → reading.Ran shows hears w.limits w.cells first last old new o → (all : List Piece) × Shows a table kept missed (said_to all s)
-  heard-all Done r = heard-it (page_said w.limits w.cells r.bytes) r.emitted
-  heard-all (ReadFault at) r = heard-it (said_so_far w.limits w.cells r.bytes) r.emitted
-  heard-all TooLong r = heard-it (said_so_far w.limits w.cells r.bytes) r.emitted
-  heard-all WriteFault r = heard-some (said_so_far w.limits w.cells r.bytes) (page_said w.limits w.cells r.bytes) r.emitted
+  heard-all : (o : ReadEnd) → reading.Ran shows hears w.limits first last old new o → (all : List Piece) × Shows a table kept missed (said_to all s)
+  heard-all Done r = heard-it (page_said w.limits r.bytes) r.emitted
+  heard-all (ReadFault at) r = heard-it (said_so_far w.limits r.bytes) r.emitted
+  heard-all TooLong r = heard-it (said_so_far w.limits r.bytes) r.emitted
+  heard-all WriteFault r = heard-some (said_so_far w.limits r.bytes) (page_said w.limits r.bytes) r.emitted
 
 -- a write fault is reported where the output failed
 live_before : (f g : Bool) (h i : Option (List ℕ)) (v w xs : List ℕ) → SendsIn f g h v i w xs → g ≡ false → f ≡ false
@@ -149,7 +149,7 @@ pub runs_to : {A : Type 0} (shows : A → Shown → Type 0) (old new : A) (w : B
     → Starts shows old w s
     → ((s : Shown) → shows new s → Shows a table kept missed s)
     → Draws a b (Bytes [] ∷ []) → table' ≡ table → IsSame kept missed kept' missed'
-    → reading.Ran shows hears w.limits w.cells first last old new wanted → a.failed ≡ reading.is_write_fault wanted → EndsAs wanted o b
+    → reading.Ran shows hears w.limits first last old new wanted → a.failed ≡ reading.is_write_fault wanted → EndsAs wanted o b
     → RunsTo w first last s b table' kept' missed' o
 runs_to shows old new w first last s a b table table' kept kept' missed missed' wanted o start is flushed here same ran failed ends =
     let h = (heard-all shows old new w first last s a b table kept missed start is flushed wanted ran).1 in

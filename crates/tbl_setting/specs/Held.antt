@@ -1,5 +1,5 @@
 -- A table as it is set, and the page around it: before all, where a page begins, and where a table does.
-use Rattle.std.specs.Prelude.{ℕ, ◌+◌, Bool, true, false, not, ◌&&◌, nat_lt, List, [], ◌∷◌, Option, None, Some, if◌then◌else◌}
+use Rattle.std.specs.Prelude.{ℕ, ◌+◌, Bool, false, ◌||◌, nat_lt, List, [], ◌∷◌, if◌then◌else◌}
 use Rattle.tbl_columns.specs.declared.grid.Grid.{Grid}
 use Rattle.tbl_columns.specs.Frames.{table_end}
 use Rattle.tbl_columns.specs.Held.{no_room}
@@ -10,8 +10,7 @@ use Rattle.tbl_drawing.specs.Held.{first_layout, with_grid}
 use Rattle.tbl_drawing.specs.Pens.{Stroke}
 use Rattle.tbl_drawing.specs.Tables as tables
 use Rattle.tbl_reader.specs.declared.complaint.Complaint.{Complaint}
-use Rattle.tbl_reader.specs.declared.complaint.Kind.{Kind}
-use Rattle.tbl_reader.specs.declared.complaint.Kind.TheVariants as kinds
+use Rattle.tbl_reader.specs.declared.complaint.Kind.TheVariants.{TooWide}
 use Rattle.tbl_setting.specs.declared.setting.Setting.{Setting}
 use Rattle.tbl_setting.specs.Watching as watching
 use Rattle.tbl_setting.specs.Watching.{Watching, first_watch, heard, room_of}
@@ -38,7 +37,8 @@ first_setting signs most row cells fits = record {
   watch = first_watch cells;
   cells = cells;
   fits = fits;
-  wide = None;
+  begun = 0;
+  wide = false;
 }
 
 abbrev pub with_fits : Bool → Setting → Setting
@@ -55,19 +55,18 @@ emptied s = record {
   watch = watching.begun s.cells s.watch;
   cells = s.cells;
   fits = s.fits;
-  wide = None;
+  begun = 0;
+  wide = false;
 }
 
--- ---- a table begins, in the line of which was heard
+-- ---- a table begins, with `.TS` on this line of the input, in the line of the page of which was heard
 
 abbrev pub in_room : Setting → Grid → Grid
 in_room s g = record g { room = room_of s.fits s.watch.around; spreads = s.watch.around.spreads }
 
-abbrev pub with_wide : Option Complaint → Setting → Setting
-with_wide complaint s = record s { wide = complaint }
-
-abbrev pub table_begun : Setting → Setting
-table_begun s = with_wide None (with_layout (with_grid (in_room s (layouts.begun s.layout).grid) (layouts.begun s.layout)) s)
+abbrev pub table_begun : ℕ → Setting → Setting
+table_begun line s =
+    let l = layouts.begun s.layout in record s { layout = with_grid (in_room s l.grid) l; begun = line; wide = false }
 
 -- ---- lines outside of tables pass
 
@@ -77,32 +76,18 @@ with_watching w s = record s { layout = with_grid w.grid s.layout; watch = w.wat
 abbrev pub page_heard : List ℕ → Setting → Setting
 page_heard text s = with_watching (heard text (watching.watching s.watch s.layout.grid)) s
 
--- ---- the table goes out, or the part of it that was read
+-- ---- the table goes out, or the part of it that was read: whether one of its parts is wider than the line is known then
+
+abbrev pub is_wide : Layout → Bool
+is_wide l = nat_lt (line_room l.grid) (table_end l.grid)
 
 abbrev pub table_set : Bool → Setting → Setting
-table_set ends s = with_layout (tables.table_after ends s.layout) s
+table_set ends s = let l = tables.table_after ends s.layout in record s { layout = l; wide = s.wide || is_wide l }
 
 abbrev pub table_strokes : Bool → Setting → List Stroke
 table_strokes ends s = tables.table_strokes ends s.layout
 
--- ---- a table that was read as wider than the line: where it is narrowed that waits until it went out, and is reported if it is wider then
+-- ---- a table that went out and is wider than the line is reported with the line of its `.TS`
 
-abbrev pub narrows : Setting → Bool
-narrows s = s.layout.grid.room.fits && not s.layout.grid.table.looks.nofit
-
-abbrev pub is_too_wide : Kind → Bool
-is_too_wide kinds.TooWide = true
-is_too_wide kind = false
-
-abbrev pub waits : Kind → Setting → Bool
-waits kind s = is_too_wide kind && narrows s
-
-abbrev pub is_wide : Setting → Bool
-is_wide s = nat_lt (line_room s.layout.grid) (table_end s.layout.grid)
-
-abbrev pub still_wide : Setting → Option Complaint
-still_wide s = if is_wide s then s.wide else None
-
-abbrev pub reported : Option Complaint → List Complaint
-reported None = []
-reported (Some complaint) = complaint ∷ []
+abbrev pub wide_reported : Setting → List Complaint
+wide_reported s = if s.wide then record { kind = TooWide; line = s.begun } ∷ [] else []

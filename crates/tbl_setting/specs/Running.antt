@@ -28,7 +28,7 @@ abbrev pub bounds_in : Page → Setting → Bounds
 bounds_in p s = record {
   signs = s.layout.grid.table.signs;
   limits = p.limits;
-  cells = p.state.measure.line;
+  cells = s.cells;
   fits = s.fits;
 }
 
@@ -37,13 +37,13 @@ with_fits fits b = record b { fits = fits }
 
 -- what a page of these bytes comes to, and what it comes to so far where more bytes may follow
 abbrev pub set_page : Bounds → List ℕ → List ℕ
-set_page b bytes = set_bytes b (page_said b.limits b.cells bytes)
+set_page b bytes = set_bytes b (page_said b.limits bytes)
 
-abbrev pub said_so_far : Limits → ℕ → List ℕ → List Piece
-said_so_far l cells bytes = (fed bytes (first_page l cells)).pieces
+abbrev pub said_so_far : Limits → List ℕ → List Piece
+said_so_far l bytes = (fed bytes (first_page l)).pieces
 
 abbrev pub set_so_far : Bounds → List ℕ → List ℕ
-set_so_far b bytes = set_bytes b (said_so_far b.limits b.cells bytes)
+set_so_far b bytes = set_bytes b (said_so_far b.limits bytes)
 
 -- these bytes went out, what is wrong with what was said was reported, and whether a table that was held went out in parts whose columns may
 -- differ
@@ -59,7 +59,7 @@ pub record IsDone (b : Bounds) (first last : Option Supply)
   pub bytes : List ℕ
   pub came : Came first bytes last
   pub ends : Ends first last
-  pub puts : Puts (set_page b bytes) (page_said b.limits b.cells bytes) (page_setting b) held new kept missed uneven
+  pub puts : Puts (set_page b bytes) (page_said b.limits bytes) (page_setting b) held new kept missed uneven
 
 -- so many bytes came, and what is half read neither went out nor was reported
 pub record IsCut (b : Bounds) (first last : Option Supply)
@@ -67,7 +67,7 @@ pub record IsCut (b : Bounds) (first last : Option Supply)
   pub bytes : List ℕ
   pub came : Came first bytes last
   pub count : length bytes ≡ at
-  pub puts : Puts (set_so_far b bytes) (said_so_far b.limits b.cells bytes) (page_setting b) held new kept missed uneven
+  pub puts : Puts (set_so_far b bytes) (said_so_far b.limits bytes) (page_setting b) held new kept missed uneven
 
 -- a part of these bytes went out, what is wrong with what was said was reported, and so were such parts
 pub record PutsPrefix (out : List ℕ) (said : List Piece) (s : Setting) (held new : Option (List ℕ)) (kept : Items Complaint)
@@ -81,8 +81,8 @@ pub record IsBroken (b : Bounds) (first last : Option Supply)
     (held new : Option (List ℕ)) (kept : Items Complaint) (missed uneven : Bool) : Type 0 where
   pub bytes : List ℕ
   pub came : Came first bytes last
-  pub puts : PutsPrefix (set_so_far b bytes) (said_so_far b.limits b.cells bytes) (page_setting b) held new kept missed uneven
-      ⊎ PutsPrefix (set_page b bytes) (page_said b.limits b.cells bytes) (page_setting b) held new kept missed uneven
+  pub puts : PutsPrefix (set_so_far b bytes) (said_so_far b.limits bytes) (page_setting b) held new kept missed uneven
+      ⊎ PutsPrefix (set_page b bytes) (page_said b.limits bytes) (page_setting b) held new kept missed uneven
 
 abbrev pub Ran : Bounds → Option Supply → Option Supply → Option (List ℕ) → Option (List ℕ)
     → Items Complaint → Bool → Bool → ReadEnd → Type 0

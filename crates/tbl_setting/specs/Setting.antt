@@ -16,7 +16,7 @@ use Rattle.tbl_drawing.specs.Tapes.{Tape, Draws}
 use Rattle.tbl_setting.specs.declared.setting.Setting.{Setting}
 use Rattle.tbl_setting.specs.Bounds.{Bounds, page_setting}
 use Rattle.tbl_setting.specs.Hearing.{called_heard, empty_added, form_of, line_heard, looks_of}
-use Rattle.tbl_setting.specs.Held.{emptied, page_heard, reported, still_wide, table, table_begun, table_set, table_strokes, waits, with_table, with_wide}
+use Rattle.tbl_setting.specs.Held.{emptied, page_heard, table, table_begun, table_set, table_strokes, wide_reported, with_table}
 use Rattle.tbl_table.specs.Formats.{formats_begun, formats_ended, text_added}
 use Rattle.tbl_table.specs.Rows.{block_ended, field_added, is_full, is_tight, mark_added, row_ended, row_len, text_begun}
 use Rattle.tbl_table.specs.Table.{looking}
@@ -77,14 +77,11 @@ plain_end = codes ".if \\n(*u .fi\n"
 
 -- ---- by what is said: what becomes of the table and of what is known of the page, and what goes out
 
-abbrev pub wrong_heard : Complaint → Setting → Setting
-wrong_heard complaint s = with_wide (if waits complaint.kind s then Some complaint else s.wide) s
-
 abbrev pub line_set : Tell → List ℕ → Setting → Setting
 line_set tell text s = with_table (line_heard tell text (table s)) s
 
 abbrev pub set_in : Tell → List ℕ → Setting → Setting
-set_in tells.Table text s = table_begun s
+set_in (tells.Table line) text s = table_begun line s
 set_in (tells.Options options) text s = with_table (looking (looks_of options) (table s)) s
 set_in tells.Formats text s = with_table (formats_begun (table s)) s
 set_in (tells.Format called) text s = with_table (called_heard called (table s)) s
@@ -101,10 +98,10 @@ set_in tells.TableEnd text s = table_set true s
 set_in tells.Plain text s = begun_ended s
 set_in tells.Pass text s = page_heard text s
 set_in tells.PlainEnd text s = s
-set_in (tells.Wrong complaint) text s = wrong_heard complaint s
+set_in (tells.Wrong complaint) text s = s
 
 abbrev pub strokes_in : Tell → List ℕ → Setting → List Stroke
-strokes_in tells.Table text s = []
+strokes_in (tells.Table line) text s = []
 strokes_in (tells.Options options) text s = []
 strokes_in tells.Formats text s = []
 strokes_in (tells.Format called) text s = []
@@ -138,19 +135,16 @@ set_bytes b said = bytes_of (strokes said (page_setting b)) first
 
 -- ---- what is wrong
 
-abbrev pub wide_reported : Setting → List Complaint
-wide_reported s = reported (still_wide (table_set true s))
+abbrev pub end_reported : Setting → List Complaint
+end_reported s = wide_reported (table_set true s)
 
 abbrev pub begun_reported : Setting → List Complaint
-begun_reported s = if has_begun s.layout then wide_reported s else []
-
-abbrev pub wrong_reported : Complaint → Setting → List Complaint
-wrong_reported complaint s = if waits complaint.kind s then [] else complaint ∷ []
+begun_reported s = if has_begun s.layout then end_reported s else []
 
 abbrev pub wrong_in : Tell → Setting → List Complaint
-wrong_in tells.TableEnd s = wide_reported s
+wrong_in tells.TableEnd s = end_reported s
 wrong_in tells.Plain s = begun_reported s
-wrong_in (tells.Wrong complaint) s = wrong_reported complaint s
+wrong_in (tells.Wrong complaint) s = complaint ∷ []
 wrong_in tell s = []
 
 abbrev pub wrongs : List Piece → Setting → List Complaint

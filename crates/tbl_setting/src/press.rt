@@ -2,7 +2,7 @@
 ghost use Rattle.std.specs.Prelude.{◌≡◌, ◌++◌, [], ◌∷◌, true, false};
 ghost use Rattle.tbl_drawing.specs.Pens.{Bytes};
 ghost use Rattle.tbl_drawing.specs.Tapes.{Draws};
-ghost use Rattle.tbl_setting.specs.Held.{reported, still_wide, table_set, table_strokes};
+ghost use Rattle.tbl_setting.specs.Held.{table_set, table_strokes, wide_reported};
 ghost use Rattle.tbl_setting.specs.Setting as specs;
 ghost use Rattle.tbl_setting.specs.Setting.{Becomes, EndsAs, IsSame, Notes, wrong_in};
 
@@ -12,7 +12,7 @@ use nr_units::sink::Sink;
 use nr_units::source::Fault;
 use nr_vectors::slice_vec::SliceVec;
 use tbl_drawing::Out;
-use tbl_reader::{Complaint, ReadEnd, Setter, Tell};
+use tbl_reader::{Complaint, Kind, ReadEnd, Setter, Tell};
 
 /// What is set, what goes out, and what is wrong.
 #[derive(Drop)]
@@ -82,15 +82,18 @@ impl<'t, 'p, 'k, 'c, W: Sink> Press<'t, 'p, 'k, 'c, W> {
         }
     }
 
-    /// A complaint that waited for the table is reported, if the table is wider than the line.
+    /// A table that went out is reported, if it is wider than the line.
     fn tell_wide(&mut self)
         ensures out { self.new.out ≡ self.old.out }
         ensures setting { self.new.setting ≡ self.old.setting }
         ensures notes { Notes self.old.complaints self.new.complaints self.old.missed self.new.missed
-            (reported (still_wide self.old.setting.now)) }
+            (wide_reported self.old.setting.now) }
     {
-        if let Some(complaint) = self.setting.still_wide() {
-            self.note(complaint);
+        if self.setting.wide {
+            self.note(Complaint {
+                kind: Kind::TooWide,
+                line: self.setting.begun,
+            });
         }
     }
 
@@ -99,7 +102,7 @@ impl<'t, 'p, 'k, 'c, W: Sink> Press<'t, 'p, 'k, 'c, W> {
         ensures draws { Draws self.old.out self.new.out (table_strokes true self.old.setting.now) }
         ensures setting { Becomes self.old.setting self.new.setting (table_set true self.old.setting.now) }
         ensures notes { Notes self.old.complaints self.new.complaints self.old.missed self.new.missed
-            (specs.wide_reported self.old.setting.now) }
+            (specs.end_reported self.old.setting.now) }
     {
         self.setting.put_table(true, &mut self.out);
         self.tell_wide();
@@ -155,21 +158,6 @@ impl<'t, 'p, 'k, 'c, W: Sink> Press<'t, 'p, 'k, 'c, W> {
         }
     }
 
-    /// Something is wrong, or may be.
-    fn hear_wrong(&mut self, complaint: Complaint)
-        ensures out { self.new.out ≡ self.old.out }
-        ensures setting { Becomes self.old.setting self.new.setting
-            (specs.wrong_heard complaint self.old.setting.now) }
-        ensures notes { Notes self.old.complaints self.new.complaints self.old.missed self.new.missed
-            (specs.wrong_reported complaint self.old.setting.now) }
-    {
-        if self.setting.waits(complaint.kind) {
-            self.setting.set_wide(complaint);
-        } else {
-            self.note(complaint);
-        }
-    }
-
     /// What was read is set, or goes out.
     #[inline(always)]
     fn hear(&mut self, tell: Tell, text: &[u8])
@@ -193,8 +181,8 @@ impl<'t, 'p, 'k, 'c, W: Sink> Press<'t, 'p, 'k, 'c, W> {
             Tell::Rule => self.ends_line(tell, text),
             Tell::Request => self.ends_line(tell, text),
             Tell::BlockText => self.add_block(text),
-            Tell::Wrong(complaint) => self.hear_wrong(complaint),
-            Tell::Table => self.setting.begin_table(),
+            Tell::Wrong(complaint) => self.note(complaint),
+            Tell::Table(line) => self.setting.begin_table(line),
             Tell::Options(options) => self.setting.layout.grid.table.set_looks(looks_of(options)),
             Tell::Formats => self.setting.layout.grid.table.formats_begin(),
             Tell::Format(called) => tell_called(called, &mut self.setting.layout.grid.table),

@@ -1,5 +1,5 @@
 //! A table as it is set, and the page around it.
-ghost use Rattle.std.specs.Prelude.{◌≡◌, ◌+◌, IfOk, Some, true};
+ghost use Rattle.std.specs.Prelude.{◌≡◌, ◌+◌, IfOk, true};
 ghost use Rattle.tbl_columns.specs.Held.{no_room};
 ghost use Rattle.tbl_drawing.specs.Tapes.{Draws};
 ghost use Rattle.tbl_setting.specs.Held as specs;
@@ -12,7 +12,6 @@ use nr_vectors::CountedAlloc;
 use std::alloc::AllocError;
 use tbl_columns::Room;
 use tbl_drawing::{Layout, Out};
-use tbl_reader::{Complaint, Kind};
 use tbl_table::{Signs, Table};
 
 /// The table that is held, and what is known of the page.
@@ -25,8 +24,10 @@ pub struct Setting {
     pub(crate) cells: usize,
     /// Tables of manual pages that are wider than the line are narrowed.
     pub(crate) fits: bool,
-    /// The table was read as wider than the line, and is narrowed: this is reported if it stays so.
-    pub(crate) wide: Option<Complaint>,
+    /// On which line of the input the table begins, with `.TS`.
+    pub(crate) begun: u64,
+    /// A part of it that went out is wider than the line.
+    pub(crate) wide: bool,
 }
 
 /// A line of which nothing was heard.
@@ -63,7 +64,8 @@ impl Setting {
             watch,
             cells,
             fits: true,
-            wide: None,
+            begun: 0,
+            wide: false,
         })
     }
 
@@ -87,18 +89,20 @@ impl Setting {
         self.layout.grid.room = unknown_room();
         self.layout.grid.spreads = true;
         self.watch.begin(self.cells);
-        self.wide = None;
+        self.begun = 0;
+        self.wide = false;
     }
 
-    /// A table begins, in the line of which was heard.
-    pub(crate) fn begin_table(&mut self)
-        ensures value { self.new ≡ specs.table_begun self.old }
+    /// A table begins, with `.TS` on this line of the input, in the line of the page of which was heard.
+    pub(crate) fn begin_table(&mut self, line: u64)
+        ensures value { self.new ≡ specs.table_begun line self.old }
         ensures room { specs.emptied self.new ≡ specs.emptied self.old }
     {
         self.layout.begin();
         self.layout.grid.spreads = self.watch.spreads();
         self.layout.grid.room = self.watch.room(self.fits);
-        self.wide = None;
+        self.begun = line;
+        self.wide = false;
     }
 
     /// Lines outside of tables pass.
@@ -142,6 +146,13 @@ impl Setting {
         self.layout.grid.table.text_begins();
     }
 
+    /// Whether the table that went out last is wider than its line.
+    fn is_wide(&self) -> bool
+        ensures { result ≡ specs.is_wide self.now.layout }
+    {
+        self.layout.grid.end() > self.layout.grid.line_room()
+    }
+
     /// The table goes out, or the part of it that was read.
     pub(crate) fn put_table<W: Sink>(&mut self, ends: bool, out: &mut Out<'_, W>)
         ensures draws { Draws out.old out.new (specs.table_strokes ends self.old) }
@@ -149,42 +160,8 @@ impl Setting {
         ensures room { specs.emptied self.new ≡ specs.emptied self.old }
     {
         let _ = self.layout.put_table(ends, out);
-    }
-
-    /// Whether a table that is wider than the line is narrowed.
-    fn narrows(&self) -> bool
-        ensures { result ≡ specs.narrows self.now }
-    {
-        self.layout.grid.room.fits && !self.layout.grid.table.looks.nofit
-    }
-
-    /// Whether such a complaint waits for the table to go out: it may be no wider than the line then.
-    pub(crate) fn waits(&self, kind: Kind) -> bool
-        ensures { result ≡ specs.waits kind self.now }
-    {
-        matches!(kind, Kind::TooWide) && self.narrows()
-    }
-
-    /// One waits.
-    pub(crate) fn set_wide(&mut self, complaint: Complaint)
-        ensures value { self.new ≡ specs.with_wide (Some complaint) self.old }
-        ensures room { specs.emptied self.new ≡ specs.emptied self.old }
-    {
-        self.wide = Some(complaint);
-    }
-
-    /// Whether the table that went out is wider than the line.
-    fn is_wide(&self) -> bool
-        ensures { result ≡ specs.is_wide self.now }
-    {
-        self.layout.grid.end() > self.layout.grid.line_room()
-    }
-
-    /// What waits for a table that went out, if it is wider than the line.
-    pub(crate) fn still_wide(&self) -> Option<Complaint>
-        ensures { result ≡ specs.still_wide self.now }
-    {
-        if self.is_wide() { self.wide } else { None }
+        let is_wide = self.is_wide();
+        self.wide = self.wide || is_wide;
     }
 
     /// Whether a table of the page went out in parts whose columns may differ.

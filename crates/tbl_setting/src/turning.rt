@@ -114,7 +114,7 @@ impl Rooms {
         };
         Ok(Rooms {
             pending: FixedVec::new(alloc, PENDING)?,
-            reader: Reader::new(alloc, limits, cells)?,
+            reader: Reader::new(alloc, limits)?,
             setting: Setting::new(alloc, limits.formats, limits.row, signs, cells)?,
         })
     }
@@ -147,7 +147,6 @@ fn run<R: Source, W: Sink>(
     ensures write_faults { press.new.out.failures ≡ put_counted_if (is_write_fault result)
         press.old.out.failures }
     ensures limits { reader.new.limits ≡ reader.old.limits }
-    ensures line { reader.new.state.measure.line ≡ reader.old.state.measure.line }
 {
     let outcome = read_page(reader, input, press);
     press.ends(outcome)
@@ -179,7 +178,6 @@ fn turn<R: Source, W: Sink>(
     ensures write_faults { W.failures result.output ≡ put_counted_if (is_write_fault result.outcome)
         out.entry.failures }
     ensures limits { reader.new.limits ≡ reader.old.limits }
-    ensures line { reader.new.state.measure.line ≡ reader.old.state.measure.line }
 {
     let mut press = Press {
         setting,
@@ -212,8 +210,8 @@ fn turn<R: Source, W: Sink>(
 /// is too long, it is what the bytes before come to, but for what is half read; at a write fault a prefix of it went
 /// out.
 /// Proved: The complaints that are kept are the first of the definition's for the bytes that came, each with its
-/// line, in input order, as many as there is room for; that a table which is narrowed stays wider than the line comes
-/// after what is wrong inside it. That there were more is reported exactly then. If the run is done those of the end
+/// line, in input order, as many as there is room for; that a table is wider than the line comes after what is wrong
+/// inside it, with the line of its `.TS`. That there were more is reported exactly then. If the run is done those of the end
 /// are among them; at a write fault they may be.
 /// Proved: A read fault is reported only where a call of the source failed, and then always, but where the sink
 /// failed too; a write fault where a call of the sink failed, and else none did.

@@ -108,7 +108,7 @@ block_free (b ∷ bs) t =
     (block_free bs (setting.block_byte b t))
 
 piece_free : (tell : Tell) (text : List ℕ) (t : Setting) → IsFree (setting.strokes_in tell text t)
-piece_free tells.Table text t = tt
+piece_free (tells.Table line) text t = tt
 piece_free (tells.Options options) text t = tt
 piece_free tells.Formats text t = tt
 piece_free (tells.Format called) text t = tt

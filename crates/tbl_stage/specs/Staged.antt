@@ -24,7 +24,7 @@ held_in r taken full = record { page = r.page; setting = r.setting; taken = take
 
 -- a page begins
 abbrev pub first_held : Bounds → Held
-first_held b = record { page = first_page b.limits b.cells; setting = page_setting b; taken = 0; is_full = false }
+first_held b = record { page = first_page b.limits; setting = page_setting b; taken = 0; is_full = false }
 
 -- the first page in these rooms, or the next one
 abbrev pub begun_in : Room → Held

@@ -77,7 +77,7 @@ impl Tables {
         ensures signs { IfOk result (λ made. made.setting.layout.grid.table.signs ≡ signs_of characters) }
         ensures table { IfOk result (λ made. made.page.limits.formats ≡ min table 18446744073709551614) }
         ensures row { IfOk result (λ made. made.page.limits.row ≡ min row 18446744073709551614) }
-        ensures cells { IfOk result (λ made. made.page.state.measure.line ≡ cells) }
+        ensures cells { IfOk result (λ made. made.setting.cells ≡ cells) }
         ensures fits { IfOk result (λ made. made.setting.fits ≡ true) }
         ensures taken { IfOk result (λ made. alloc.new ≡ alloc.old + memory_of made.page.limits) }
     {
@@ -95,7 +95,7 @@ impl Tables {
         ensures signs { IfOk result (λ made. made.setting.layout.grid.table.signs ≡ signs) }
         ensures table { IfOk result (λ made. made.page.limits.formats ≡ min table 18446744073709551614) }
         ensures row { IfOk result (λ made. made.page.limits.row ≡ min row 18446744073709551614) }
-        ensures cells { IfOk result (λ made. made.page.state.measure.line ≡ cells) }
+        ensures cells { IfOk result (λ made. made.setting.cells ≡ cells) }
         ensures fits { IfOk result (λ made. made.setting.fits ≡ true) }
         ensures taken { IfOk result (λ made. alloc.new ≡ alloc.old + memory_of made.page.limits) }
     {
@@ -105,14 +105,14 @@ impl Tables {
         };
         Ok(Tables {
             pending: FixedVec::new(alloc, PENDING)?,
-            reader: Reader::new(alloc, limits, cells)?,
+            reader: Reader::new(alloc, limits)?,
             setting: Setting::new(alloc, limits.formats, limits.row, signs, cells)?,
         })
     }
 
     /// A page begins.
     pub(crate) fn begin(&mut self)
-        ensures page { self.new.page ≡ first_page self.old.page.limits self.old.page.state.measure.line }
+        ensures page { self.new.page ≡ first_page self.old.page.limits }
         ensures setting { self.new.setting ≡ page_setting (bounds_in self.old.page self.old.setting) }
     {
         self.reader.begins();

@@ -8,7 +8,7 @@ use Rattle.tbl_reader.proofs.reader.Reader.kept_line_ends.Goals as goal
 pub overflow_add-self : goal.overflow_add-self
 overflow_add-self g c =
     let p = c.args.self.now in
-    let stays = (fitting_ended p c.requires.fits c.requires.kept).same.line in
+    let stays = (fitting_ended p c.requires.fits c.requires.kept).same in
     let here : c.self.inside.state.line ≡ (line_ended_in p.state.mode p).page.state.line = ap (λ (x : Page). x.state.line) (c.self.view_is ∙ c.line_ends.ensures.page) in
     omega (arith, stays, here)
 

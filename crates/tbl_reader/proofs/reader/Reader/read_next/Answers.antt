@@ -1,4 +1,5 @@
-use Rattle.tbl_reader.proofs.Passed.{end_keeps_limits, one_read}
+use Rattle.tbl_reader.proofs.Keeping.{end_stays}
+use Rattle.tbl_reader.proofs.Passed.{one_read}
 use Rattle.tbl_reader.proofs.reader.Reader.read_next.Goals as goal
 
 pub returns-in-Some-clause-goes_on : goal.returns-in-Some-clause-goes_on
@@ -7,4 +8,4 @@ returns-in-Some-clause-goes_on g c =
     rw c.in-Some.is all.goes_on
 
 pub returns-in-None-clause-goes_on : goal.returns-in-None-clause-goes_on
-returns-in-None-clause-goes_on g c = rw c.in-None.is (end_keeps_limits c.args.self.now c.finish.new.self c.requires.fits c.finish.ensures.page)
+returns-in-None-clause-goes_on g c = rw c.in-None.is (end_stays c.args.self.now c.finish.new.self c.requires.fits c.finish.ensures.page)

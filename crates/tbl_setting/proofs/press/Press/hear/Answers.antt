@@ -81,7 +81,4 @@ pub returns-in-Rule-clause-notes : goal.returns-in-Rule-clause-notes
 returns-in-Rule-clause-notes g c = line_reported _ _ _ c.in-Rule.is refl c.ends_line-in-Rule.ensures.complaints
 
 pub returns-in-Wrong-clause-notes : goal.returns-in-Wrong-clause-notes
-returns-in-Wrong-clause-notes g c = reported_for _ _ _ c.in-Wrong.is c.hear_wrong.ensures.notes
-
-pub returns-in-Wrong-clause-setting : goal.returns-in-Wrong-clause-setting
-returns-in-Wrong-clause-setting g c = becomes_for _ _ _ _ _ _ c.in-Wrong.is c.hear_wrong.ensures.setting
+returns-in-Wrong-clause-notes g c = reported_for _ _ _ c.in-Wrong.is c.note.ensures.notes

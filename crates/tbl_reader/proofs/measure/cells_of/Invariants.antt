@@ -1,7 +1,0 @@
-use Rattle.std.proofs.Common.{◌≡◌, ◌+◌, ◌≤◌, drop}
-use Rattle.tbl_reader.specs.Measure.{all_cells, first_cells}
-use Rattle.tbl_reader.proofs.measure.cells_of.Given as goal
-
-abbrev pub invariant-loop-byte : goal.invariant-loop-byte
-invariant-loop-byte l =
-    (all_cells (drop l.byte-index l.rest) l.cells ≡ all_cells l.text first_cells) × (l.cells.count ≤ l.prefix + l.byte-index)
