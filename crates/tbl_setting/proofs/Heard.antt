@@ -1,5 +1,5 @@
 -- What is heard of a page stays in the room that was taken for it.
-use Rattle.std.proofs.Common.{◌≡◌, ◌==◌, ℕ, Bool, true, false, not, List, [], ◌∷◌, Option, None, Some, codes, refl, ap, ◌∙◌, if◌then◌else◌}
+use Rattle.std.proofs.Common.{◌≡◌, ◌==◌, ◌||◌, ℕ, Bool, true, false, not, nat_lt, List, [], ◌∷◌, Option, None, Some, codes, refl, ap, ◌∙◌, if◌then◌else◌}
 use Prim.Native.Char.{code}
 use Rattle.nr_units.specs.declared.units.Scale.TheVariants.{Unit}
 use Rattle.tbl_columns.specs.declared.grid.Grid.{Grid}
@@ -7,6 +7,8 @@ use Rattle.tbl_columns.specs.Held as grids
 use Rattle.tbl_columns.specs.Registers.{list_eq}
 use Rattle.tbl_drawing.specs.Held.{with_grid}
 use Rattle.tbl_setting.proofs.Held.{grid_room, layout_room}
+use Rattle.tbl_setting.specs.declared.requests.Macro.{Macro}
+use Rattle.tbl_setting.specs.declared.requests.Macro.TheVariants as macros
 use Rattle.tbl_setting.specs.declared.requests.Request.{Request}
 use Rattle.tbl_setting.specs.declared.requests.Request.TheVariants as requests
 use Rattle.tbl_setting.specs.declared.setting.Setting.{Setting}
@@ -17,8 +19,9 @@ use Rattle.tbl_blocks.specs.Words.{name_of, request_in}
 use Rattle.tbl_setting.specs.Held.{emptied, page_heard, with_layout, with_watching}
 use Rattle.tbl_setting.specs.Lengths.{length_in}
 use Rattle.tbl_setting.specs.Margins.{or_number}
+use Rattle.tbl_setting.specs.Papers.{column_said, count_said, gap_said, half, narrowed, paper_obeyed, part_of, whole, with_paper}
 use Rattle.tbl_setting.specs.Requests.{request_of}
-use Rattle.tbl_setting.specs.Watching.{Hearing, Watching, begins_control, begun, byte_heard, control_heard, definition_heard, ends_copy, heard, hearing, is_text, line_ended, line_heard, nothing_known, obeyed_by, watching}
+use Rattle.tbl_setting.specs.Watching.{Hearing, Watching, begins_control, begun, byte_heard, control_heard, definition_heard, ends_copy, heard, hearing, is_text, line_ended, line_heard, nothing_known, obeyed_by, register_said, watching}
 use Rattle.tbl_table.specs.Lists.{added}
 
 -- whichever is chosen
@@ -32,6 +35,34 @@ known cells h = nothing_known cells h.around
 
 left : ℕ → Watching → Watch
 left cells s = begun cells s.watch
+
+narrowed_same : (cells width : ℕ) (a : Around) → nothing_known cells (narrowed width a) ≡ nothing_known cells a
+narrowed_same cells width a =
+    either (nothing_known cells) (nat_lt width a.cells) (record a { cells = width; paper = record a.paper { whole = Some a.cells } }) a (nothing_known cells a) refl refl
+
+paper_same : (cells : ℕ) (name : Macro) (text : List ℕ) (a : Around) → nothing_known cells (paper_obeyed name text a) ≡ nothing_known cells a
+paper_same cells macros.Halves text a = narrowed_same cells (half (whole a).cells) (whole a)
+paper_same cells macros.Columns text a = narrowed_same cells (column_said text (whole a).cells) (whole a)
+paper_same cells macros.Parts text a =
+    let p = record (whole a).paper { gap = gap_said text (whole a).paper } in
+    narrowed_same cells (part_of (whole a).cells p.gap (count_said text)) (with_paper p (whole a))
+paper_same cells macros.Whole text a = refl
+paper_same cells macros.Quote text a = refl
+paper_same cells macros.QuoteEnd text a = refl
+paper_same cells macros.Cite text a = refl
+paper_same cells macros.CiteEnd text a = refl
+
+register_same : (cells : ℕ) (name : List ℕ) (said : Option ℕ) (a : Around) → nothing_known cells (register_said name said a) ≡ nothing_known cells a
+register_same cells name said a =
+    let line = record a { cells = or_number said a.cells } in
+    let quote = with_paper (record a.paper { quote = said }) a in
+    let part = with_paper (record a.paper { part = or_number said a.paper.part }) a in
+    let none = nothing_known cells a in
+    let parts : nothing_known cells (if list_eq name (codes "PI") then part else a) ≡ none = either (nothing_known cells) (list_eq name (codes "PI")) part a none refl refl in
+    let quotes : nothing_known cells (if list_eq name (codes "QI") || list_eq name (codes "qi") then quote else if list_eq name (codes "PI") then part else a) ≡ none =
+    either (nothing_known cells) (list_eq name (codes "QI") || list_eq name (codes "qi")) quote (if list_eq name (codes "PI") then part else a) none refl parts in
+    either (nothing_known cells) (list_eq name (codes "LL")) line
+    (if list_eq name (codes "QI") || list_eq name (codes "qi") then quote else if list_eq name (codes "PI") then part else a) none refl quotes
 
 request_same : (cells : ℕ) (r : Request) (text : List ℕ) (h : Hearing) → known cells (obeyed_by r text h) ≡ known cells h
 unfolding known
@@ -47,8 +78,9 @@ request_same cells requests.Ragged text h = refl
 request_same cells requests.Adjust text h = refl
 request_same cells requests.Length text h = refl
 request_same cells requests.Copy text h = refl
-request_same cells requests.Register text h =
-    either (nothing_known cells) (list_eq (argument text 0) (codes "LL")) (record h.around { cells = or_number (length_in (argument text 1) Unit) h.around.cells }) h.around (nothing_known cells h.around) refl refl
+request_same cells (requests.Paper name) text h =
+    either (nothing_known cells) h.around.manual h.around (paper_obeyed name text h.around) (nothing_known cells h.around) refl (paper_same cells name text h.around)
+request_same cells requests.Register text h = register_same cells (argument text 0) (length_in (argument text 1) Unit) h.around
 request_same cells requests.Other text h = refl
 
 control_same : (cells : ℕ) (line : List ℕ) (h : Hearing) → known cells (control_heard line h) ≡ known cells h

@@ -83,6 +83,7 @@ request_known requests.Ragged text h = knows_itself h.grid
 request_known requests.Adjust text h = knows_itself h.grid
 request_known requests.Length text h = knows_itself h.grid
 request_known requests.Copy text h = knows_itself h.grid
+request_known (requests.Paper name) text h = knows_itself h.grid
 request_known requests.Other text h = knows_itself h.grid
 
 definition_known : (place : Option ℕ) (line : List ℕ) (h : Hearing) → Knows h.grid (definition_heard place line h).grid

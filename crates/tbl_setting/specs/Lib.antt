@@ -5,6 +5,7 @@ pub mod Hearing
 pub mod Held
 pub mod Lengths
 pub mod Margins
+pub mod Papers
 pub mod Requests
 pub mod Running
 pub mod Setting

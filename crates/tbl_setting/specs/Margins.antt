@@ -22,8 +22,11 @@ abbrev pub sum_from : ℕ → List ℕ → ℕ
 sum_from n [] = n
 sum_from n (m ∷ ms) = sum_from (sum n m) ms
 
+abbrev pub parts : Margins → ℕ
+parts m = sum_from 0 m.rests.items
+
 abbrev pub margin : Margins → ℕ
-margin m = sum_from (sum m.tag m.more) m.rests.items
+margin m = sum (sum (parts m) m.tag) m.more
 
 abbrev pub or_number : Option ℕ → ℕ → ℕ
 or_number None other = other

@@ -19,6 +19,7 @@ use Rattle.nr_units.specs.declared.units.Scale.TheVariants.{Unit}
 use Rattle.tbl_setting.specs.Lengths.{cells_said, length_in}
 use Rattle.tbl_setting.specs.Margins as margins
 use Rattle.tbl_setting.specs.Margins.{first_margins, no_margins, or_number}
+use Rattle.tbl_setting.specs.Papers.{no_paper, paper_obeyed, said_or_part, with_paper}
 use Rattle.tbl_setting.specs.Requests.{request_of}
 use Rattle.tbl_table.specs.Held.{none_of}
 use Rattle.tbl_table.specs.Lists.{added, put}
@@ -38,6 +39,7 @@ first_watch cells = record {
     last_cells = cells;
     copies = false;
     margins = first_margins;
+    paper = no_paper;
   };
 }
 
@@ -54,18 +56,22 @@ nothing_known cells a = record {
   last_cells = cells;
   copies = false;
   margins = no_margins a.margins;
+  paper = no_paper;
 }
 
 abbrev pub begun : ℕ → Watch → Watch
 begun cells w = record { line = none_of w.line; around = nothing_known cells w.around }
 
--- ---- the line in which tables stand that follow: a manual page indents what stands in its sections by 7, and its tables are narrowed
+-- ---- the line in which tables stand that follow: a manual page indents what stands in its sections by 7, and its tables are narrowed; a
+-- paper what stands in parts and quotes
 
 abbrev pub indent : Around → ℕ
-indent a = if a.manual && a.within then sum (margins.margin a.margins) 7 else 0
+indent a =
+    if not a.manual then sum (margins.parts a.margins) a.paper.left else
+    if a.within then sum (margins.margin a.margins) 7 else 0
 
 abbrev pub room_of : Bool → Around → Room
-room_of fits a = record { line = a.cells; indent = indent a; fits = fits && a.manual }
+room_of fits a = record { line = a.cells - a.paper.right; indent = indent a; fits = fits && a.manual }
 
 -- ---- requests
 
@@ -73,10 +79,15 @@ room_of fits a = record { line = a.cells; indent = indent a; fits = fits && a.ma
 abbrev pub length_set : List ℕ → Around → Around
 length_set text a = record a { cells = or_number (cells_said text a.cells) a.last_cells; last_cells = a.cells }
 
--- `.nr LL`, by which a paper says how long its lines are
+-- `.nr LL`, by which a paper says how long its lines are; what a quote takes, and what a part does
+abbrev pub register_said : List ℕ → Option ℕ → Around → Around
+register_said name said a =
+    if list_eq name (codes "LL") then record a { cells = or_number said a.cells } else
+    if list_eq name (codes "QI") || list_eq name (codes "qi") then with_paper (record a.paper { quote = said }) a else
+    if list_eq name (codes "PI") then with_paper (record a.paper { part = or_number said a.paper.part }) a else a
+
 abbrev pub paper_set : List ℕ → List ℕ → Around → Around
-paper_set name text a =
-    if list_eq name (codes "LL") then record a { cells = or_number (length_in text Unit) a.cells } else a
+paper_set name text a = register_said name (length_in text Unit) a
 
 abbrev pub section_begun : Around → Around
 section_begun a = record a { within = true; margins = no_margins a.margins }
@@ -88,19 +99,26 @@ is_ragged (b ∷ bs) = (b == code "l") || ((b == code "c") || (b == code "r"))
 abbrev pub adjusted : List ℕ → Around → Around
 adjusted text a = record a { spreads = not (is_ragged text) }
 
+abbrev pub tagged : Option ℕ → Around → Around
+tagged said a = record a { margins = margins.with_tag (said_or_part said a) a.margins }
+
+abbrev pub deeper : Option ℕ → Around → Around
+deeper said a = record a { margins = margins.deeper (said_or_part said a) a.margins }
+
 abbrev pub obeyed : Request → List ℕ → Around → Around
 obeyed requests.Title text a = record a { manual = true }
 obeyed requests.Section text a = section_begun a
 obeyed requests.Paragraph text a = record a { margins = margins.without_tag a.margins }
-obeyed requests.Item text a = record a { margins = margins.with_tag (number_of (argument text 1)) a.margins }
+obeyed requests.Item text a = tagged (number_of (argument text 1)) a
 obeyed requests.Tagged text a = record a { margins = margins.with_tag (number_of (argument text 0)) a.margins }
-obeyed requests.Deeper text a = record a { margins = margins.deeper (number_of (argument text 0)) a.margins }
+obeyed requests.Deeper text a = deeper (number_of (argument text 0)) a
 obeyed requests.Back text a = record a { margins = margins.back a.margins }
 obeyed requests.Indent text a = record a { margins = margins.moved (argument text 0) a.margins }
 obeyed requests.Ragged text a = record a { spreads = false }
 obeyed requests.Adjust text a = adjusted (argument text 0) a
 obeyed requests.Length text a = length_set (argument text 0) a
 obeyed requests.Copy text a = record a { copies = true }
+obeyed (requests.Paper name) text a = if a.manual then a else paper_obeyed name text a
 obeyed requests.Register text a = a
 obeyed requests.Other text a = a
 

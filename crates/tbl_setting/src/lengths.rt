@@ -1,6 +1,6 @@
 //! The length of a line that `.ll` says.
 ghost use Rattle.std.specs.Prelude.{◌≡◌};
-ghost use Rattle.nr_units.specs.declared.units.Scale.TheVariants.{Unit};
+ghost use Rattle.nr_units.specs.declared.units.Scale.TheVariants.{En, Unit};
 ghost use Rattle.tbl_setting.specs.Lengths as specs;
 
 use nr_units::{Ctx, Scale, read_expr};
@@ -41,6 +41,13 @@ pub(crate) fn paper_cells(text: &[u8]) -> Option<usize>
     ensures { result ≡ specs.length_in text.now Unit }
 {
     length_in(text, Scale::Unit)
+}
+
+/// The cells that an argument of a macro says.
+pub(crate) fn en_cells(text: &[u8]) -> Option<usize>
+    ensures { result ≡ specs.length_in text.now En }
+{
+    length_in(text, Scale::En)
 }
 
 /// The cells that a line has after `.ll`, where it had so many before.

@@ -1,7 +1,7 @@
 //! Pages with tables are turned: what tbl_reader reads is emitted to what holds it, and goes out.
 //!
 //! It stands on nr_units, nr_vectors, utf8_characters, tbl_blocks, tbl_table, tbl_columns, tbl_drawing and tbl_reader. To read:
-//! `drawing`, `hearing`; `arguments`, `lengths`, `margins`, `requests`, `watching`; `setting`, `press`, `turning`, `stepping`.
+//! `drawing`, `hearing`; `arguments`, `lengths`, `margins`, `requests`, `papers`, `watching`; `setting`, `press`, `turning`, `stepping`.
 #![tactic(auto)]
 
 mod arguments;
@@ -9,6 +9,7 @@ mod drawing;
 mod hearing;
 mod lengths;
 mod margins;
+mod papers;
 mod press;
 mod requests;
 mod setting;

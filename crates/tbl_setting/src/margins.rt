@@ -64,7 +64,16 @@ impl Margins {
     pub(crate) fn sum(&self) -> usize
         ensures { result ≡ specs.margin self.now }
     {
-        let mut sum = self.tag.saturating_add(self.more);
+        self.parts()
+            .saturating_add(self.tag)
+            .saturating_add(self.more)
+    }
+
+    /// What parts that are open indent.
+    pub(crate) fn parts(&self) -> usize
+        ensures { result ≡ specs.parts self.now }
+    {
+        let mut sum: usize = 0;
         for rest in self.rests.as_slice() {
             sum = sum.saturating_add(*rest);
         }

@@ -2,6 +2,27 @@
 ghost use Rattle.std.specs.Prelude.{◌≡◌};
 ghost use Rattle.tbl_setting.specs.Requests as specs;
 
+/// What a macro of papers says.
+#[derive(Clone, Copy)]
+pub(crate) enum Macro {
+    /// `.2C`: two columns begin.
+    Halves,
+    /// `.MC`: columns of a width.
+    Columns,
+    /// `.2c`: as many as are said.
+    Parts,
+    /// `.1C`, `.1c`: they end.
+    Whole,
+    /// `.QS`: a quote begins.
+    Quote,
+    /// `.QE`: it ends.
+    QuoteEnd,
+    /// `.(q`: one of -me begins.
+    Cite,
+    /// `.)q`: it ends.
+    CiteEnd,
+}
+
 /// What a request says.
 #[derive(Clone, Copy)]
 pub(crate) enum Request {
@@ -31,12 +52,14 @@ pub(crate) enum Request {
     Register,
     /// `.de`, `.am`, `.ig`: the lines that follow are copied.
     Copy,
+    /// One of papers.
+    Paper(Macro),
     /// Nothing of tables.
     Other,
 }
 
 /// They, by their two letters; a name of one letter has 0 as its second.
-static NAMES: [(u8, u8, Request); 18] = [
+static NAMES: [(u8, u8, Request); 27] = [
     (b'T', b'H', Request::Title),
     (b'S', b'H', Request::Section),
     (b'S', b'S', Request::Section),
@@ -55,6 +78,15 @@ static NAMES: [(u8, u8, Request); 18] = [
     (b'd', b'e', Request::Copy),
     (b'a', b'm', Request::Copy),
     (b'i', b'g', Request::Copy),
+    (b'2', b'C', Request::Paper(Macro::Halves)),
+    (b'M', b'C', Request::Paper(Macro::Columns)),
+    (b'1', b'C', Request::Paper(Macro::Whole)),
+    (b'2', b'c', Request::Paper(Macro::Parts)),
+    (b'1', b'c', Request::Paper(Macro::Whole)),
+    (b'Q', b'S', Request::Paper(Macro::Quote)),
+    (b'Q', b'E', Request::Paper(Macro::QuoteEnd)),
+    (b'(', b'q', Request::Paper(Macro::Cite)),
+    (b')', b'q', Request::Paper(Macro::CiteEnd)),
 ];
 
 /// What a table says of two letters.

@@ -9,6 +9,7 @@ use super::arguments::{
 };
 use super::lengths::{cells_said, paper_cells};
 use super::margins::{INDENT, Margins, or_number};
+use super::papers::Paper;
 use super::requests::{Request, request_of};
 use nr_units::Name;
 use nr_vectors::{CountedAlloc, FixedVec};
@@ -38,6 +39,7 @@ pub(crate) struct Around {
     /// Its lines are copied, and say nothing.
     pub copies: bool,
     pub margins: Margins,
+    pub paper: Paper,
 }
 
 /// What was heard.
@@ -99,13 +101,17 @@ impl Around {
         self.last_cells = cells;
         self.copies = false;
         self.margins.begin();
+        self.paper = Paper::new();
     }
 
     /// What lines are indented.
     fn indent(&self) -> usize
         ensures { result ≡ specs.indent self.now }
     {
-        if self.manual && self.within {
+        if !self.manual {
+            return self.margins.parts().saturating_add(self.paper.left);
+        }
+        if self.within {
             self.margins.sum().saturating_add(INDENT)
         } else {
             0
@@ -117,7 +123,7 @@ impl Around {
         ensures { result ≡ specs.room_of fits self.now }
     {
         Room {
-            line: self.cells,
+            line: self.cells.saturating_sub(self.paper.right),
             indent: self.indent(),
             fits: fits && self.manual,
         }
@@ -132,12 +138,17 @@ impl Around {
         self.cells = cells;
     }
 
-    /// `.nr LL`, by which a paper says how long its lines are.
+    /// `.nr LL`, by which a paper says how long its lines are; `.nr QI` and `.nr qi`, what a quote takes; `.nr PI`, what a part does.
     fn set_paper(&mut self, name: &[u8], text: &[u8])
         ensures { self.new ≡ specs.paper_set name.now text.now self.old }
     {
+        let said = paper_cells(text);
         if name == b"LL".as_slice() {
-            self.cells = or_number(paper_cells(text), self.cells);
+            self.cells = or_number(said, self.cells);
+        } else if name == b"QI".as_slice() || name == b"qi".as_slice() {
+            self.paper.quote = said;
+        } else if name == b"PI".as_slice() {
+            self.paper.part = or_number(said, self.paper.part);
         }
     }
 
@@ -156,6 +167,22 @@ impl Around {
         self.spreads = !matches!(text, [b'l' | b'c' | b'r', ..]);
     }
 
+    /// `.IP`
+    fn set_tag(&mut self, said: Option<usize>)
+        ensures { self.new ≡ specs.tagged said self.old }
+    {
+        let said = self.said_or_part(said);
+        self.margins.set_tag(said);
+    }
+
+    /// `.RS`
+    fn go_deeper(&mut self, said: Option<usize>)
+        ensures { self.new ≡ specs.deeper said self.old }
+    {
+        let said = self.said_or_part(said);
+        self.margins.go_deeper(said);
+    }
+
     /// A request, with its name and its arguments.
     fn obey(&mut self, request: Request, text: &[u8])
         ensures { self.new ≡ specs.obeyed request text.now self.old }
@@ -165,16 +192,17 @@ impl Around {
             Request::Title => self.manual = true,
             Request::Section => self.begin_section(),
             Request::Paragraph => self.margins.end_tag(),
-            Request::Item => self.margins.set_tag(number_of(argument(text, 1))),
+            Request::Item => self.set_tag(number_of(argument(text, 1))),
             Request::Tagged => self.margins.set_tag(number_of(first)),
-            Request::Deeper => self.margins.go_deeper(number_of(first)),
+            Request::Deeper => self.go_deeper(number_of(first)),
             Request::Back => self.margins.go_back(),
             Request::Indent => self.margins.set_more(first),
             Request::Ragged => self.spreads = false,
             Request::Adjust => self.set_spread(first),
             Request::Length => self.set_length(first),
             Request::Copy => self.copies = true,
-            Request::Register | Request::Other => {}
+            Request::Paper(name) if !self.manual => self.obey_paper(name, text),
+            Request::Paper(_) | Request::Register | Request::Other => {}
         }
     }
 
@@ -233,6 +261,7 @@ impl Watch {
             last_cells: cells,
             copies: false,
             margins,
+            paper: Paper::new(),
         };
         Ok(Watch { line, around })
     }
