@@ -62,6 +62,13 @@ uint32_t nulbiko_tbl_lent(uint32_t table, size_t line, const uint8_t *input, siz
 uint32_t nulbiko_utf8_lent(uint32_t table, bool escapes, const uint8_t *input, size_t length, uint8_t *output,
                            size_t capacity, struct reported *reported);
 uint32_t nulbiko_choose_lent(const uint8_t *input, size_t length);
+uint32_t nulbiko_preconv_own_lent(const uint8_t *page, size_t page_length, const uint8_t *input, size_t length,
+                                  uint8_t *output, size_t capacity, struct reported *reported);
+uint32_t nulbiko_tbl_own_lent(const uint8_t *page, size_t page_length, size_t line, const uint8_t *input, size_t length,
+                              uint8_t *output, size_t capacity, struct reported *reported);
+uint32_t nulbiko_utf8_own_lent(const uint8_t *page, size_t page_length, bool escapes, const uint8_t *input, size_t length,
+                               uint8_t *output, size_t capacity, struct reported *reported);
+uint32_t nulbiko_choose_own_lent(const uint8_t *page, size_t length);
 
 /* What a call passes, after it was looked at: no pointer is null. */
 struct passed {
@@ -273,6 +280,70 @@ enum nulbiko_table nulbiko_choose(const void *input, size_t length)
     if (!input && length)
         return NULBIKO_NO_TABLE;
     return (enum nulbiko_table)nulbiko_choose_lent(input ? (const uint8_t *)input : &none, length);
+}
+
+/* The same with a page whose own table it is: its bytes, or those of no bytes where it has none. */
+static enum nulbiko_outcome look_with(const uint8_t **lent, struct passed *passed, const void *page, size_t page_length,
+                                      const void *input, size_t length, void *output, size_t capacity,
+                                      struct nulbiko_report *report)
+{
+    enum nulbiko_outcome looked = look(passed, input, length, output, capacity, report);
+    if (looked != NULBIKO_DONE)
+        return looked;
+    if (!page && page_length)
+        return NULBIKO_NULL;
+    *lent = page ? (const uint8_t *)page : &passed->none;
+    return NULBIKO_DONE;
+}
+
+enum nulbiko_table nulbiko_choose_own(const void *page, size_t length)
+{
+    const uint8_t none = 0;
+    if (!page && length)
+        return NULBIKO_NO_TABLE;
+    return (enum nulbiko_table)nulbiko_choose_own_lent(page ? (const uint8_t *)page : &none, length);
+}
+
+enum nulbiko_outcome nulbiko_preconv_own(const void *page, size_t page_length, const void *input, size_t length,
+                                         void *output, size_t capacity, struct nulbiko_report *report)
+{
+    const uint8_t *lent;
+    struct passed passed;
+    struct reported reported;
+    enum nulbiko_outcome looked = look_with(&lent, &passed, page, page_length, input, length, output, capacity, report);
+    if (looked != NULBIKO_DONE)
+        return looked;
+    uint32_t outcome =
+        nulbiko_preconv_own_lent(lent, page_length, passed.input, length, passed.output, capacity, &reported);
+    return ended(outcome, &reported, report);
+}
+
+enum nulbiko_outcome nulbiko_tbl_own(const void *page, size_t page_length, size_t line, const void *input, size_t length,
+                                     void *output, size_t capacity, struct nulbiko_report *report)
+{
+    const uint8_t *lent;
+    struct passed passed;
+    struct reported reported;
+    enum nulbiko_outcome looked = look_with(&lent, &passed, page, page_length, input, length, output, capacity, report);
+    if (looked != NULBIKO_DONE)
+        return looked;
+    uint32_t outcome =
+        nulbiko_tbl_own_lent(lent, page_length, line, passed.input, length, passed.output, capacity, &reported);
+    return ended(outcome, &reported, report);
+}
+
+enum nulbiko_outcome nulbiko_utf8_own(const void *page, size_t page_length, bool escapes, const void *input,
+                                      size_t length, void *output, size_t capacity, struct nulbiko_report *report)
+{
+    const uint8_t *lent;
+    struct passed passed;
+    struct reported reported;
+    enum nulbiko_outcome looked = look_with(&lent, &passed, page, page_length, input, length, output, capacity, report);
+    if (looked != NULBIKO_DONE)
+        return looked;
+    uint32_t outcome =
+        nulbiko_utf8_own_lent(lent, page_length, escapes, passed.input, length, passed.output, capacity, &reported);
+    return ended(outcome, &reported, report);
 }
 
 const char *nulbiko_version(void)

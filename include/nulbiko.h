@@ -24,8 +24,8 @@
  * reads none, prints nothing and ends no process. What nulbiko_open keeps, nulbiko_close gives back; no other call keeps
  * anything.
  *
- * Time. Every call ends. `moves` is how many moves or steps it made; nulbiko_tbl counts none. nulbiko_document and
- * nulbiko_format make at most as many as the limit `moves` says, and at most 256 * (expansions + 1) * (stored + cells +
+ * Time. Every call ends. `moves` is how many moves or steps it made; nulbiko_tbl and the calls with a page's own table count none.
+ * nulbiko_document and nulbiko_format make at most as many as the limit `moves` says, and at most 256 * (expansions + 1) * (stored + cells +
  * depth + 4) between two bytes that are formatted, those of the macros too. The second is far above what a service waits
  * for, so it sets the first: 10^8 moves take some two seconds.
  */
@@ -94,7 +94,10 @@ enum nulbiko_table {
     NULBIKO_LATIN1 = 5, /* Latin-1 at its own bytes: for a program that prints it as it is. */
     NULBIKO_CHOSEN = 6,  /* Of nulbiko_document: the one that nulbiko_choose gives for the page, or in UTF-8, where that lacks
                           * a letter with its marks that the page prints, one of the page's own. */
-    NULBIKO_UNCHOSEN = 7 /* Of nulbiko_choose: malloc gave no memory to look at the page. No call takes it. */
+    NULBIKO_UNCHOSEN = 7, /* Of nulbiko_choose and nulbiko_choose_own: malloc gave no memory to look at the page. No call takes
+                           * it. */
+    NULBIKO_OWN = 8 /* Of nulbiko_choose_own: one of the page's own, which nulbiko_preconv_own, nulbiko_tbl_own and
+                     * nulbiko_utf8_own make of it. No call takes it. */
 };
 
 /* How nulbiko_document gives its pages. */
@@ -169,10 +172,9 @@ struct nulbiko_report {
 #define NULBIKO_REPORT {sizeof(struct nulbiko_report), 0, 0, 0, 0, 0, 0}
 
 /* Prints a whole page: mdoc, preconv, tbl, nroff and utf8 in one call. The page is read under its coding before that, as
- * nulbiko_preconv reads one. Of a page in UTF-8 the bytes are those of the five calls below, one after the other, but of one
- * that has a table of its own, as of Japanese, Chinese, Korean, Czech and Vietnamese: these calls have the fixed tables
- * alone. Such a page takes 85 kB of memory more than another, and
- * 950 kB of the stack, where another takes 480 (plain Rust). */
+ * nulbiko_preconv reads one. Of a page in UTF-8 the bytes are those of the five calls below, one after the other; of one
+ * that has a table of its own, as of Japanese, Chinese, Korean, Czech and Vietnamese, three of them are those with `own`. Such
+ * a page takes 85 kB of memory more than another, and 950 kB of the stack, where another takes 480 (plain Rust). */
 enum nulbiko_outcome nulbiko_document(const struct nulbiko_limits *limits, const struct nulbiko_document_options *options,
                                       const void *input, size_t length, void *output, size_t capacity,
                                       struct nulbiko_report *report);
@@ -228,6 +230,21 @@ enum nulbiko_outcome nulbiko_format(const struct nulbiko_limits *limits, const s
  * control character goes out but newline. NULBIKO_NO_TABLE is out of range. */
 enum nulbiko_outcome nulbiko_utf8(enum nulbiko_table table, bool escapes, const void *input, size_t length, void *output,
                                   size_t capacity, struct nulbiko_report *report);
+
+/* The same of a page in UTF-8, or NULBIKO_OWN where that table lacks a letter with its marks that the page prints. So
+ * nulbiko_document chooses, with NULBIKO_CHOSEN. */
+enum nulbiko_table nulbiko_choose_own(const void *page, size_t length);
+
+/* nulbiko_preconv, nulbiko_tbl and nulbiko_utf8 with a table of the page's own: each looks at the first MiB of the page, as it
+ * was before nulbiko_mdoc, and makes the same table of it. Where the page has more characters than the table has room for, the
+ * others are what they look like. Each takes 40 kB of memory and a copy of the page more than with a fixed table, and 480 kB of
+ * the stack, where those take 100 (plain Rust). */
+enum nulbiko_outcome nulbiko_preconv_own(const void *page, size_t page_length, const void *input, size_t length,
+                                         void *output, size_t capacity, struct nulbiko_report *report);
+enum nulbiko_outcome nulbiko_tbl_own(const void *page, size_t page_length, size_t line, const void *input, size_t length,
+                                     void *output, size_t capacity, struct nulbiko_report *report);
+enum nulbiko_outcome nulbiko_utf8_own(const void *page, size_t page_length, bool escapes, const void *input,
+                                      size_t length, void *output, size_t capacity, struct nulbiko_report *report);
 
 /* The version of the library, as NULBIKO_VERSION is that of the header. */
 const char *nulbiko_version(void);

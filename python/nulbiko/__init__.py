@@ -13,8 +13,8 @@ import os
 import threading
 from ctypes import byref, c_bool, c_char_p, c_int64, c_size_t, c_uint32, c_uint64, c_void_p, sizeof
 
-__all__ = ['FORMS', 'LIMITS', 'LIMITS_OF_STRANGERS', 'MAN', 'TABLES', 'Handle', 'Stopped', 'choose', 'document', 'format', 'mdoc',
-           'page', 'preconv', 'tbl', 'utf8', 'version']
+__all__ = ['FORMS', 'LIMITS', 'LIMITS_OF_STRANGERS', 'MAN', 'TABLES', 'Handle', 'Stopped', 'choose', 'choose_own', 'document',
+           'format', 'mdoc', 'page', 'preconv', 'tbl', 'utf8', 'version']
 
 # The limits of `document` and `format`: nroff's own, and those for a stranger's page, which ends after seconds.
 LIMITS = {'stored': 262144, 'depth': 256, 'cells': 65536, 'expansions': 1000000, 'moves': 2**64 - 1}
@@ -23,8 +23,9 @@ LIMITS_OF_STRANGERS = {'stored': 262144, 'depth': 64, 'cells': 65536, 'expansion
 TABLES = {None: 0, 'english': 1, 'latin': 2, 'cyrillic': 3, 'greek': 4, 'latin1': 5}
 # How `document` gives its pages: as bytes of the table, in UTF-8, or in UTF-8 between escape sequences.
 FORMS = {'bytes': 0, 'utf8': 1, 'escapes': 2}
-# The number of the table that `choose` gives, and what the library answers where there is no memory to choose one.
-CHOSEN, UNCHOSEN = 6, 7
+# The number of the table that `choose` gives, what the library answers where there is no memory to choose one, and what where the
+# page takes one of its own.
+CHOSEN, UNCHOSEN, OWN = 6, 7, 8
 # What is held of a table, of a line of a row, and what goes out of a table at once, in bytes.
 HELD = 1 << 18, 1 << 14, 1 << 24
 # The most bytes that a call makes.
@@ -79,12 +80,14 @@ def _library():
     places = [c_char_p, c_size_t, c_void_p, c_size_t, c_void_p]
     firsts = {'document': [c_void_p, c_void_p], 'run': [c_void_p], 'format': [c_void_p, c_void_p], 'mdoc': [], 'preconv': [c_uint32],
               'tbl': [c_uint32, c_size_t], 'utf8': [c_uint32, c_bool]}
+    firsts |= {f'{name}_own': [c_char_p, c_size_t, *firsts[name][1:]] for name in ('preconv', 'tbl', 'utf8')}
     for name, first in firsts.items():
         call = getattr(library, f'nulbiko_{name}')
         call.argtypes, call.restype = first + places, c_uint32
     library.nulbiko_open.argtypes, library.nulbiko_open.restype = [c_void_p] * 3, c_uint32
     library.nulbiko_close.argtypes, library.nulbiko_close.restype = [c_void_p], None
-    library.nulbiko_choose.argtypes, library.nulbiko_choose.restype = [c_char_p, c_size_t], c_uint32
+    for call in library.nulbiko_choose, library.nulbiko_choose_own:
+        call.argtypes, call.restype = [c_char_p, c_size_t], c_uint32
     library.nulbiko_version.argtypes, library.nulbiko_version.restype = [], c_char_p
     for name in 'outcome', 'limit':
         call = getattr(library, f'nulbiko_{name}_name')
@@ -161,8 +164,8 @@ def document(text, macros=b'', width=78, limits=LIMITS, first=1, table='chosen',
     the page under its coding.
 
     The width is that of the macros and of tables: a text without macro files begins with `.ll`. The table is that which `choose`
-    gives where it is nothing else, or in UTF-8 one of the page's own, where that lacks a letter of the page; without one (None) the form is 'bytes'. What `form` may be is in `FORMS`. `bold` is that of
-    `format`. With `long_page` it is one page; with `mdoc` a page of mdoc(7) is turned; with `tables` tables are set.
+    gives where it is nothing else, or in UTF-8 `choose_own`; without one (None) the form is 'bytes'. What `form` may be is in
+    `FORMS`. `bold` is that of `format`. With `long_page` it is one page; with `mdoc` a page of mdoc(7) is turned; with `tables` tables are set.
     """
     lent, options = _asked(macros, width, limits, first, table, form, bold, long_page, mdoc, tables)
     return _made('document', [byref(lent), byref(options)], text)
@@ -210,13 +213,33 @@ class Handle:
             self.close()
 
 
+def _chosen(name, text):
+    """The number of the table that a call gives for a page."""
+    text = bytes(memoryview(text))
+    number = getattr(_LIBRARY, f'nulbiko_{name}')(text, len(text))
+    if number == UNCHOSEN:
+        raise Stopped(name, _LIBRARY.nulbiko_outcome_name(OUT_OF_MEMORY).decode(), None, 0, b'')
+    return number
+
+
 def choose(text):
     """The name of the table that a page takes, by the first 65,536 bytes of its text, read under its coding."""
-    text = bytes(memoryview(text))
-    number = _LIBRARY.nulbiko_choose(text, len(text))
-    if number == UNCHOSEN:
-        raise Stopped('choose', _LIBRARY.nulbiko_outcome_name(OUT_OF_MEMORY).decode(), None, 0, b'')
+    number = _chosen('choose', text)
     return next(name for name in TABLES if TABLES[name] == number)
+
+
+def choose_own(page):
+    """The same, as `document` chooses for a page in UTF-8: 'own' where that table lacks a letter that the page prints."""
+    number = _chosen('choose_own', page)
+    return 'own' if number == OWN else next(name for name in TABLES if TABLES[name] == number)
+
+
+def _by(name, table, page):
+    """The call with a table and what it is given first: with 'own' the page whose table it is."""
+    if table != 'own':
+        return name, [TABLES[table]]
+    page = bytes(memoryview(page))
+    return f'{name}_own', [page, len(page)]
 
 
 def mdoc(text):
@@ -224,17 +247,20 @@ def mdoc(text):
     return _made('mdoc', [], text)
 
 
-def preconv(text, table=None):
+def preconv(text, table=None, page=None):
     """Turns what manual pages use, read under its coding, into the language of `format`; characters of the table become its
-    bytes."""
-    return _made('preconv', [TABLES[table]], text)
+    bytes. With the table 'own' they are those of the page's own, which is made of what the page prints, as it was before `mdoc`;
+    so it is of `tbl` and `utf8`."""
+    name, first = _by('preconv', table, page)
+    return _made(name, first, text)
 
 
-def tbl(text, width=78, table=None):
+def tbl(text, width=78, table=None, page=None):
     """Turns tables into the language of `format`, for a line of so many cells, as well as it can."""
     if width < 0:
         raise ValueError(f'width {width} is below 0')
-    return _made('tbl', [TABLES[table], width], text)
+    name, first = _by('tbl', table, page)
+    return _made(name, [*first, width], text)
 
 
 def format(text, limits=LIMITS, first=1, bold=False):
@@ -248,10 +274,11 @@ def format(text, limits=LIMITS, first=1, bold=False):
     return _made('format', [byref(lent), byref(options)], text)
 
 
-def utf8(text, table, escapes=False):
+def utf8(text, table, escapes=False, page=None):
     """Turns bytes of a table into its characters, in UTF-8. With `escapes` underlined text stands between the terminal's
     escape sequences, and else after `_` and a backspace."""
-    return _made('utf8', [TABLES[table], escapes], text)
+    name, first = _by('utf8', table, page)
+    return _made(name, [*first, escapes], text)
 
 
 def page(text, width=78, limits=LIMITS_OF_STRANGERS, bold=False):

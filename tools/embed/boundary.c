@@ -167,6 +167,28 @@ static void null_pointers(void)
     judge("tbl: 0 and 0", nulbiko_tbl(NULBIKO_NO_TABLE, 78, NULL, 0, NULL, 0, &report) == NULBIKO_DONE && put_out(""));
 }
 
+static void null_of_own_tables(void)
+{
+    prepare();
+    judge("preconv_own: no page", nulbiko_preconv_own(NULL, 1, text, 1, out, 9, &report) == NULBIKO_NULL && nothing_done());
+    prepare();
+    judge("tbl_own: no page", nulbiko_tbl_own(NULL, 1, 78, text, 1, out, 9, &report) == NULBIKO_NULL && nothing_done());
+    prepare();
+    judge("utf8_own: no page", nulbiko_utf8_own(NULL, 1, false, text, 1, out, 9, &report) == NULBIKO_NULL && nothing_done());
+    prepare();
+    judge("preconv_own: no text", nulbiko_preconv_own(text, 1, NULL, 1, out, 9, &report) == NULBIKO_NULL && nothing_done());
+    prepare();
+    judge("tbl_own: no output", nulbiko_tbl_own(text, 1, 78, text, 1, NULL, 9, &report) == NULBIKO_NULL && nothing_done());
+    judge("utf8_own: no report", nulbiko_utf8_own(text, 1, false, text, 1, out, 9, NULL) == NULBIKO_NULL);
+    judge("choose_own: no page", nulbiko_choose_own(NULL, 1) == NULBIKO_NO_TABLE);
+    prepare();
+    judge("preconv_own: 0 and 0", nulbiko_preconv_own(NULL, 0, NULL, 0, NULL, 0, &report) == NULBIKO_DONE && put_out(""));
+    prepare();
+    judge("tbl_own: 0 and 0", nulbiko_tbl_own(NULL, 0, 78, NULL, 0, NULL, 0, &report) == NULBIKO_DONE && put_out(""));
+    prepare();
+    judge("utf8_own: 0 and 0", nulbiko_utf8_own(NULL, 0, false, NULL, 0, NULL, 0, &report) == NULBIKO_DONE && put_out(""));
+}
+
 static void ranges(void)
 {
     const struct nulbiko_limits bad[] = {
@@ -363,6 +385,67 @@ static const char shown[] =
     "\xe6\x97\xa5\xe6\x9c\xac \xc5\x98 x\xcc\xa3\n\xe2\x94\x8c\xe2\x94\x80\xe2\x94\x80\xe2\x94\x80\xe2\x94\x90\n"
     "\xe2\x94\x82\xe6\x97\xa5 \xe2\x94\x82\n\xe2\x94\x94\xe2\x94\x80\xe2\x94\x80\xe2\x94\x80\xe2\x94\x98\n\n\n";
 
+/* Pages with tables of their own, in Czech, and in Japanese of mdoc(7). */
+static const char czech[] =
+    ".TH A 1\n.SH N\xc3\x81ZEV\nA \\- p\xc5\x99""eklad, \\fI\xc5\x99""e\xc4\x8d\\fP\n.TS\nbox;\nl l.\n\xc5\xbe\t\xc5\x87\n.TE\n";
+static const char japanese[] =
+    ".Dd 2026\n.Dt A 1\n.Os\n.Sh \xe5\x90\x8d\xe5\x89\x8d\n.Nm ls\n.Nd \xe4\xb8\x80\xe8\xa6\xa7\n.TS\nbox;\nl.\n\xe6\x97\xa5\n.TE\n";
+
+static char staged[1 << 16], made[1 << 16];
+
+/* A page by its stages, one after the other, with the table of its own: how many bytes of UTF-8. */
+static size_t by_stages(const char *page, bool escapes)
+{
+    const size_t size = strlen(page);
+    size_t before = strlen(macros);
+    prepare();
+    nulbiko_mdoc(page, size, made, sizeof made, &report);
+    nulbiko_preconv_own(page, size, made, report.written, staged, sizeof staged, &report);
+    memcpy(made, ".nr L 78\n.nr C 1\n", 17);
+    memcpy(made + 17, macros, before);
+    before += 17;
+    nulbiko_tbl_own(page, size, 78, staged, report.written, made + before, sizeof made - before, &report);
+    nulbiko_format(&plain, &options, made, before + report.written, staged, sizeof staged, &report);
+    nulbiko_utf8_own(page, size, escapes, staged, report.written, made, sizeof made, &report);
+    return report.written;
+}
+
+/* It gives the very bytes of a document. */
+static bool is_staged(const char *page, enum nulbiko_form form)
+{
+    struct nulbiko_document_options set = plainly();
+    set.macros = macros;
+    set.macros_length = strlen(macros);
+    set.table = NULBIKO_CHOSEN;
+    set.form = form;
+    size_t length = by_stages(page, form == NULBIKO_ESCAPES);
+    return document(&plain, set, page, sizeof out) == NULBIKO_DONE && report.written == length && !memcmp(out, made, length) &&
+           length > 0;
+}
+
+static void own_tables(void)
+{
+    const char *const pages[] = {native, czech, japanese};
+    for (size_t i = 0; i < sizeof pages / sizeof *pages; i++) {
+        judge("choose_own: its own", nulbiko_choose_own(pages[i], strlen(pages[i])) == NULBIKO_OWN);
+        judge("own: a document is its stages", is_staged(pages[i], NULBIKO_UTF8));
+        judge("own: with escapes", is_staged(pages[i], NULBIKO_ESCAPES));
+    }
+    judge("choose_own: a fixed one", nulbiko_choose_own("\xd1\x82", 2) == NULBIKO_CYRILLIC);
+    judge("choose_own: nothing to go by", nulbiko_choose_own("abc", 3) == NULBIKO_ENGLISH);
+    prepare();
+    judge("preconv_own: two characters of two columns", nulbiko_preconv_own(native, strlen(native), "\xe6\x97\xa5\xe6\x9c\xac", 6, out, sizeof out, &report) == NULBIKO_DONE &&
+                                                            report.written == 8 && !memcmp(out + 2, "\\(zb", 4) && report.moves == 0);
+    prepare();
+    judge("preconv_own: full", nulbiko_preconv_own(native, strlen(native), "abc\n", 4, out, 3, &report) == NULBIKO_FULL && put_out("abc"));
+    prepare();
+    judge("preconv_own: just enough room", nulbiko_preconv_own(native, strlen(native), "abc\n", 4, out, 4, &report) == NULBIKO_DONE && put_out("abc\n"));
+    prepare();
+    judge("utf8_own: full", nulbiko_utf8_own(native, strlen(native), false, "a_\bb\n", 5, out, 3, &report) == NULBIKO_FULL && put_out("a_\b"));
+    prepare();
+    judge("tbl_own: full", nulbiko_tbl_own(native, strlen(native), 78, "abc\n", 4, out, 2, &report) == NULBIKO_FULL && put_out("ab"));
+}
+
 static void documents(void)
 {
     struct nulbiko_document_options set = plainly();
@@ -502,6 +585,16 @@ static void no_memory(void)
     judge("format: out of memory", format(&large, text, sizeof out) == NULBIKO_OUT_OF_MEMORY && nothing_done());
     judge("document: out of memory", document(&large, plainly(), text, sizeof out) == NULBIKO_OUT_OF_MEMORY && nothing_done());
     judge("choose: out of memory", nulbiko_choose(long_text, sizeof long_text) == NULBIKO_UNCHOSEN);
+    judge("choose_own: out of memory", nulbiko_choose_own(long_text, sizeof long_text) == NULBIKO_UNCHOSEN);
+    prepare();
+    judge("preconv_own: out of memory", nulbiko_preconv_own(native, strlen(native), long_text, sizeof long_text, out, sizeof out, &report) ==
+                                            NULBIKO_OUT_OF_MEMORY && nothing_done());
+    prepare();
+    judge("tbl_own: out of memory", nulbiko_tbl_own(long_text, sizeof long_text, 78, text, 1, out, sizeof out, &report) ==
+                                        NULBIKO_OUT_OF_MEMORY && nothing_done());
+    prepare();
+    judge("utf8_own: out of memory", nulbiko_utf8_own(long_text, sizeof long_text, false, text, 1, out, sizeof out, &report) ==
+                                         NULBIKO_OUT_OF_MEMORY && nothing_done());
     struct nulbiko_document_options set = plainly();
     struct nulbiko_handle *handle = NULL, *none = (struct nulbiko_handle *)out;
     set.macros = long_text;
@@ -532,12 +625,14 @@ int main(void)
     null_of_documents();
     null_of_handles();
     null_pointers();
+    null_of_own_tables();
     ranges();
     ranges_of_handles();
     sizes();
     names();
     outcomes();
     documents();
+    own_tables();
     limits_of_documents();
     handles();
     no_memory();

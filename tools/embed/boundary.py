@@ -6,6 +6,8 @@ import threading
 import nulbiko
 
 PAGE = '.TH A 1\n.SH NAME\na \\- ünï – codé\n.TS\nl l.\na\tb\n.TE\n'
+CZECH = '.TH A 1\n.SH NÁZEV\na \\- překlad, \\fIřeč\\fP a “Ťuk”\n.TS\nbox;\nl l.\nž\tŇ\n.TE\n'
+JAPANESE = '.Dd 2026\n.Dt A 1\n.Os\n.Sh 名前\n.Nm ls\n.Nd 一覧、Ř\n.TS\nbox;\nl.\n日本\n.TE\n'
 ENDLESS = '.TH A 1\n.SH NAME\na \\- b\n.de XX\n.XX\n..\n.XX\n'
 PASSED, FAILED = [], []
 
@@ -61,6 +63,21 @@ def documents():
     ascii_page = nulbiko.document(text, nulbiko.MAN, 60, table=None, form='bytes')
     judge('document: ASCII', ascii_page.isascii() and b'a - uni - code' in ascii_page.replace(b'_\b', b''))
     judge('document: pages', len(nulbiko.document(text, nulbiko.MAN, long_page=False).split(b'\n')) == 67)
+
+
+def natives():
+    """So is a page with a table of its own."""
+    for text in CZECH, JAPANESE:
+        page = text.encode()
+        judge('choose_own: its own', nulbiko.choose_own(page) == 'own')
+        turned = nulbiko.tbl(nulbiko.preconv(nulbiko.mdoc(page), 'own', page), 60, 'own', page)
+        for bold in False, True:
+            made = nulbiko.format(b'.nr C 1\n.nr L 60\n' + nulbiko.MAN + turned, bold=bold)
+            for form in 'utf8', 'escapes':
+                wanted = nulbiko.utf8(made, 'own', form == 'escapes', page)
+                judge(f'own: {form}, bold {bold}', nulbiko.document(page, nulbiko.MAN, 60, form=form, bold=bold) == wanted)
+    judge('choose_own: a fixed one', nulbiko.choose_own(PAGE.encode()) == nulbiko.choose(PAGE.encode()))
+    refused('preconv: its own, of no page', TypeError, nulbiko.preconv, b'', 'own')
 
 
 def handles():
@@ -133,6 +150,7 @@ def refusals():
 
 pages()
 documents()
+natives()
 handles()
 codings()
 limits()

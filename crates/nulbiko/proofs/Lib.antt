@@ -6,4 +6,6 @@ mod PreconvRun
 mod MdocRun
 mod TblRun
 mod Utf8Run
+mod Handing
+mod StagedRun
 mod DocumentRun

@@ -3,10 +3,8 @@ use Rattle.std.proofs.Common.{◌≡◌, ℕ, List, Bool, true, false, Option, r
 use Rattle.nr_units.specs.Failures.{next_count}
 use Rattle.nr_units.specs.Source.{Supply}
 use Rattle.nr_vectors.specs.Items.{Items}
-use Rattle.utf8_characters.specs.declared.table.FixedTable.{FixedTable}
 use Rattle.tbl_table.specs.declared.signs.Signs.{Signs}
 use Rattle.tbl_setting.specs.Bounds.{Bounds}
-use Rattle.tbl_setting.specs.Drawing.{signs_of}
 use Rattle.tbl_setting.specs.Running.{Ran, is_read_fault}
 use Rattle.tbl_reader.specs.Running.{TellsReads}
 use Rattle.tbl_reader.specs.declared.complaint.Complaint.{Complaint}
@@ -15,12 +13,12 @@ use Rattle.tbl_reader.specs.declared.running.ReadEnd.TheVariants.{Done, ReadFaul
 use Rattle.nulbiko.specs.Tbl.{bounds}
 
 -- bounds are those of a line, part by part
-pub bounds_made : (b : Bounds) (table : Option FixedTable) (line : ℕ) → b.signs ≡ signs_of table → b.limits.formats ≡ 262144
-    → b.limits.row ≡ 16384 → b.cells ≡ line → b.fits ≡ true → b ≡ bounds table line
-bounds_made b table line signs formats row cells fits =
+pub bounds_made : (b : Bounds) (signs : Signs) (line : ℕ) → b.signs ≡ signs → b.limits.formats ≡ 262144
+    → b.limits.row ≡ 16384 → b.cells ≡ line → b.fits ≡ true → b ≡ bounds signs line
+bounds_made b signs line drawn formats row cells fits =
     let made : Signs → ℕ → ℕ → ℕ → Bool → Bounds = λ g f r n w. record { signs = g; limits = record { formats = f; row = r }; cells = n; fits = w } in
-    let of = bounds table line in
-    ap (λ (g : Signs). made g b.limits.formats b.limits.row b.cells b.fits) signs
+    let of = bounds signs line in
+    ap (λ (g : Signs). made g b.limits.formats b.limits.row b.cells b.fits) drawn
     ∙ ap (λ (f : ℕ). made of.signs f b.limits.row b.cells b.fits) formats
     ∙ ap (λ (r : ℕ). made of.signs of.limits.formats r b.cells b.fits) row
     ∙ ap (λ (n : ℕ). made of.signs of.limits.formats of.limits.row n b.fits) cells

@@ -9,3 +9,5 @@ pub mod Utf8
 pub mod Printed
 pub mod Document
 pub mod Keeping
+pub mod Handed
+pub mod Looked

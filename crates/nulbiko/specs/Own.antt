@@ -34,8 +34,11 @@ abbrev pub asks_for_own : DocumentSetup → List ℕ → Bool
 asks_for_own setup text = (setup.options.table == 6) && (not (setup.options.form == 0) && may_need_own text)
 
 -- what the first MiB of a page prints, with what frames are drawn with where tables are set
+abbrev pub counts_by : Stages → Bool → List ℕ → List Count
+counts_by stages sets text = counts_of 4352 sets (plain_of stages Utf8 (prefix_of text))
+
 abbrev pub counts_for : DocumentSetup → List ℕ → List Count
-counts_for setup text = counts_of 4352 (sets_of setup text) (plain_of (stages_of setup) Utf8 (prefix_of text))
+counts_for setup text = counts_by (stages_of setup) (sets_of setup text) text
 
 -- and the fixed table that the page takes lacks some of it
 abbrev pub takes_own : DocumentSetup → List ℕ → Bool

@@ -11,6 +11,10 @@ count_reported n = if nat_lt n 18446744073709551616 then n else 1844674407370955
 abbrev pub nothing_reported : Report
 nothing_reported = record { written = 0; at = 0; moves = 0; limit = 0; dropped = 0; line = 0 }
 
+-- so many bytes were put, and nothing else is reported
+abbrev pub only_written : ℕ → Report
+only_written n = record { written = n; at = 0; moves = 0; limit = 0; dropped = 0; line = 0 }
+
 -- the number where so many bytes came out and so many fit: 4 where not all of them do
 abbrev pub code_within : ℕ → ℕ → ℕ → ℕ
 code_within code came fit = if nat_lt fit came then 4 else code

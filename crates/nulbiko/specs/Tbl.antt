@@ -2,8 +2,10 @@
 use Rattle.std.specs.Prelude.{◌≡◌, ℕ, List, [], ◌∷◌, length, Bool, true, false, Option, Some}
 use Rattle.nr_vectors.specs.Items.{Items}
 use Rattle.nr_units.specs.Source.{Supply}
-use Rattle.utf8_characters.specs.declared.table.FixedTable.{FixedTable}
-use Rattle.tbl_setting.specs.Drawing.{signs_of}
+use Rattle.tbl_table.specs.declared.signs.Signs.{Signs}
+use Rattle.utf8_own_characters.specs.Table.{Characters}
+use Rattle.utf8_own_page.specs.Needing.{IsTableOf}
+use Rattle.utf8_own_page.specs.Signs.{signs_for}
 use Rattle.tbl_setting.specs.Bounds.{Bounds}
 use Rattle.tbl_setting.specs.Running.{Ran, is_read_fault}
 use Rattle.tbl_reader.specs.declared.reader.Limits.{Limits}
@@ -12,6 +14,7 @@ use Rattle.tbl_reader.specs.declared.complaint.Kind.{Kind}
 use Rattle.tbl_reader.specs.declared.complaint.Kind.TheVariants as kinds
 use Rattle.tbl_reader.specs.declared.running.ReadEnd.{ReadEnd}
 use Rattle.tbl_reader.specs.declared.running.ReadEnd.TheVariants.{Done, ReadFault, TooLong, WriteFault}
+use Rattle.nulbiko.specs.Looked.{counts_in}
 use Rattle.nulbiko.specs.Reported.{IsHanded, code_within, whole_text}
 use Rattle.nulbiko.specs.declared.reported.Report.{Report}
 
@@ -52,18 +55,18 @@ abbrev pub limits : Limits
 limits = record { formats = 262144; row = 16384 }
 
 -- tables of manual pages are narrowed
-abbrev pub bounds : Option FixedTable → ℕ → Bounds
-bounds table line = record { signs = signs_of table; limits = limits; cells = line; fits = true }
+abbrev pub bounds : Signs → ℕ → Bounds
+bounds signs line = record { signs = signs; limits = limits; cells = line; fits = true }
 
--- The tables of the text were set for a line of so many cells, with boxes of the characters of the table if there is one, what came out was handed over, and what was wrong first is reported.
-pub record SetsTables (table : Option FixedTable) (line : ℕ) (text output : List ℕ) (report : Report) (code : ℕ) : Type 0 where
+-- The tables of the text were set for a line of so many cells, with boxes that are drawn with these, what came out was handed over, and what was wrong first is reported.
+pub record SetsTables (signs : Signs) (line : ℕ) (text output : List ℕ) (report : Report) (code : ℕ) : Type 0 where
   pub outcome : ReadEnd
   pub left : Option Supply
   pub bytes : List ℕ
   pub kept : Items Complaint
   pub missed : Bool
   pub uneven : Bool
-  pub ran : Ran (bounds table line) (Some (whole_text text)) left (Some []) (Some bytes) kept
+  pub ran : Ran (bounds signs line) (Some (whole_text text)) left (Some []) (Some bytes) kept
       missed uneven outcome
   pub room : kept.capacity ≡ 1
   pub handed : IsHanded bytes output report.written
@@ -75,3 +78,9 @@ pub record SetsTables (table : Option FixedTable) (line : ℕ) (text output : Li
   pub no_line : report.line ≡ 0
   -- a slice doesn't fail
   pub readable : is_read_fault outcome ≡ false
+
+-- The same, with boxes of the characters of the table of this page.
+pub record SetsByOwn (page : List ℕ) (line : ℕ) (text output : List ℕ) (report : Report) (code : ℕ) : Type 0 where
+  pub table : Characters
+  pub is : IsTableOf (counts_in page) table
+  pub sets : SetsTables (signs_for table) line text output report code

@@ -136,7 +136,7 @@ pub(crate) fn options_for(asked: DocumentOptions) -> Options
 }
 
 /// Whether a line of a page begins with `.TS`.
-fn has_tables(page: &[u8]) -> bool
+pub(crate) fn has_tables(page: &[u8]) -> bool
     ensures { result ≡ specs.has_tables page.now }
 {
     let mut begins = true;

@@ -31,7 +31,7 @@ use utf8_own_characters::Count;
 use utf8_own_page::{Cells, counted, lacks, prefix_of, signs_of};
 
 /// Counts what the first of a page prints beyond ASCII, after what frames are drawn with.
-fn count_prefix(
+pub(crate) fn count_prefix(
     alloc: Global,
     stages: Stages,
     frames: bool,

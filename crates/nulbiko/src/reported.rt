@@ -1,6 +1,6 @@
 // What a call reports beside its bytes, in numbers.
 ghost use Rattle.std.specs.Prelude.{◌≡◌, ◌≢◌};
-ghost use Rattle.nulbiko.specs.Reported.{code_within, count_reported, nothing_reported};
+ghost use Rattle.nulbiko.specs.Reported.{code_within, count_reported, nothing_reported, only_written};
 
 /// All went into the output.
 pub(crate) const DONE: u32 = 0;
@@ -53,6 +53,16 @@ impl Report {
             limit: 0,
             dropped: 0,
             line: 0,
+        }
+    }
+
+    /// So many bytes were put.
+    pub(crate) fn of_bytes(written: usize) -> Report
+        ensures { result ≡ only_written written }
+    {
+        Report {
+            written,
+            ..Report::nothing()
         }
     }
 }

@@ -10,6 +10,9 @@ pub(crate) const MOST_TABLES: u32 = 5;
 /// No table was chosen, as there was not enough memory to look at the page.
 pub(crate) const UNCHOSEN: u32 = 7;
 
+/// A page has a table of its own.
+pub(crate) const OWN: u32 = 8;
+
 /// The table of a number: 1 `english`, 2 `latin`, 3 `cyrillic`, 4 `greek`, 5 `latin1`.
 pub(crate) fn table_of(number: u32) -> Option<FixedTable>
     ensures { result ≡ table_numbered number }

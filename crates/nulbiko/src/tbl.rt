@@ -2,9 +2,15 @@
 ghost use Rattle.std.specs.Prelude.{◌≡◌, ◌≢◌, ◌↔◌, ◌+◌, ◌<◌, drop, length, IfOk, OnErr};
 ghost use Rattle.nulbiko.specs.Tables.{table_numbered};
 ghost use Rattle.nulbiko.specs.Reported.{nothing_reported};
-ghost use Rattle.nulbiko.specs.Tbl.{SetsTables, code_of, first_kind, first_line, kind_number, limits};
+ghost use Rattle.nulbiko.specs.Tbl.{SetsByOwn, SetsTables, code_of, first_kind, first_line, kind_number, limits};
 ghost use Rattle.tbl_setting.specs.Running.{memory_of};
+ghost use Rattle.tbl_setting.specs.Drawing.{signs_of};
+ghost use Rattle.utf8_own_page.specs.Needing.{prefix_of};
+ghost use Rattle.preconv_coding.specs.UnderCoding.{text_of};
+ghost use Rattle.nulbiko.specs.Looked.{all_stages};
+ghost use Rattle.nulbiko.specs.Own.{LookIsShort};
 
+use super::looked::look_at;
 use super::pages::{Pages, hand_over};
 use super::reported::{
     DONE, FULL, OUT_OF_MEMORY, OUT_OF_RANGE, Report, TOO_LONG, UNREADABLE, code_within,
@@ -14,8 +20,8 @@ use super::text::Text;
 use nr_vectors::CountedAlloc;
 use nr_vectors::slice_vec::SliceVec;
 use std::alloc::{AllocError, Global};
-use tbl_setting::{Complaint, Kind, ReadEnd, Rooms, convert};
-use utf8_characters::FixedTable;
+use tbl_setting::{Complaint, Kind, ReadEnd, Rooms, Signs, convert, signs_of};
+use utf8_own_page::signs_of as own_signs_of;
 
 /// The most bytes of a table that are held.
 const TABLE: usize = 262_144;
@@ -68,23 +74,23 @@ fn first_wrong(complaints: &[Complaint]) -> (u32, u64)
     }
 }
 
-/// Sets the tables, hands over what comes out and gives the number of the outcome.
+/// Sets the tables with these frames, hands over what comes out and gives the number of the outcome.
 fn set_tables(
     alloc: &mut CountedAlloc,
-    table: Option<FixedTable>,
+    signs: Signs,
     line: usize,
     input: &[u8],
     output: &mut [u8],
     reported: &mut Report,
 ) -> Result<u32, AllocError>
-    ensures set { IfOk result (λ code. SetsTables table line input.now output.new reported.new code) }
+    ensures set { IfOk result (λ code. SetsTables signs line input.now output.new reported.new code) }
     ensures taken { IfOk result (λ code. alloc.new ≡ alloc.old + memory_of limits + length output.old) }
     ensures not_range { IfOk result (λ code. code ≢ 2) }
     ensures not_memory { IfOk result (λ code. code ≢ 5) }
     ensures untouched { OnErr result ((output.new ≡ output.old) × (reported.new ≡ reported.old)) }
     ensures rest { drop reported.new.written output.new ≡ drop reported.new.written output.old }
 {
-    let mut rooms = Rooms::new(alloc, TABLE, ROW, line, table)?;
+    let mut rooms = Rooms::drawn_with(alloc, TABLE, ROW, line, signs)?;
     let pages = Pages::new(alloc, output.len())?;
     let mut text = Text::over(input);
     let mut slots = [Complaint::NONE];
@@ -119,7 +125,7 @@ pub extern "C" fn nulbiko_tbl_lent(
 ) -> u32
     ensures ranges { (result ≡ 2) ↔ (5 < table) }
     ensures set { result ≢ 2 → result ≢ 5
-        → SetsTables (table_numbered table) line input.now output.new reported.new result }
+        → SetsTables (signs_of (table_numbered table)) line input.now output.new reported.new result }
     ensures bad { result ≡ 2 → (output.new ≡ output.old) × (reported.new ≡ nothing_reported) }
     ensures no_memory { result ≡ 5 → (output.new ≡ output.old) × (reported.new ≡ nothing_reported) }
     ensures rest { drop reported.new.written output.new ≡ drop reported.new.written output.old }
@@ -129,7 +135,36 @@ pub extern "C" fn nulbiko_tbl_lent(
         return OUT_OF_RANGE;
     }
     let mut counted = CountedAlloc::new(alloc);
-    match set_tables(&mut counted, table_of(table), line, input, output, reported) {
+    let signs = signs_of(table_of(table));
+    match set_tables(&mut counted, signs, line, input, output, reported) {
+        Ok(code) => code,
+        Err(_) => OUT_OF_MEMORY,
+    }
+}
+
+/// The same, where boxes are drawn with the characters that the table of this page has.
+#[unsafe(no_mangle)]
+pub extern "C" fn nulbiko_tbl_own_lent(
+    alloc: Global,
+    page: &[u8],
+    line: usize,
+    input: &[u8],
+    output: &mut [u8],
+    reported: &mut Report,
+) -> u32
+    ensures set { result ≢ 5 → LookIsShort all_stages (prefix_of (text_of page.now))
+        → SetsByOwn (text_of page.now) line input.now output.new reported.new result }
+    ensures not_range { result ≢ 2 }
+    ensures no_memory { result ≡ 5 → (output.new ≡ output.old) × (reported.new ≡ nothing_reported) }
+    ensures rest { drop reported.new.written output.new ≡ drop reported.new.written output.old }
+{
+    *reported = Report::nothing();
+    let Ok(cells) = look_at(alloc, page) else {
+        return OUT_OF_MEMORY;
+    };
+    let signs = own_signs_of(&cells.table());
+    let mut counted = CountedAlloc::new(alloc);
+    match set_tables(&mut counted, signs, line, input, output, reported) {
         Ok(code) => code,
         Err(_) => OUT_OF_MEMORY,
     }

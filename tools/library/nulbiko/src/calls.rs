@@ -1,12 +1,14 @@
 //! Calls over texts that are given and made.
 
-use crate::words::{Characters, Limit, Limits, Options, Stopped, Table, Why, Wrong};
+use crate::words::{Characters, Choice, Limit, Limits, Options, Stopped, Table, Why, Wrong};
 use kit::alloc::Global;
 use nulbiko_lent::document::nulbiko_document_lent;
 use nulbiko_lent::formatting::nulbiko_format_lent;
+use nulbiko_lent::looked::nulbiko_choose_own_lent;
 use nulbiko_lent::mdoc::nulbiko_mdoc_lent;
 use nulbiko_lent::preconv::nulbiko_preconv_lent;
-use nulbiko_lent::tbl::nulbiko_tbl_lent;
+use nulbiko_lent::staged::{nulbiko_preconv_own_lent, nulbiko_utf8_own_lent};
+use nulbiko_lent::tbl::{nulbiko_tbl_lent, nulbiko_tbl_own_lent};
 use nulbiko_lent::utf8::{nulbiko_choose_lent, nulbiko_utf8_lent};
 use nulbiko_lent::{DocumentOptions, DocumentSetup, Report, TableLimits, TextLimits, TextOptions};
 
@@ -15,6 +17,7 @@ const MOST: usize = 1 << 26;
 
 const NOTHING: Report = Report { written: 0, at: 0, moves: 0, limit: 0, dropped: 0, line: 0 };
 const CHOSEN: u32 = 6;
+const OWN: u32 = 8;
 const FULL: u32 = 4;
 
 /// What a call made.
@@ -23,7 +26,7 @@ const FULL: u32 = 4;
 pub struct Made {
     /// The text that came out.
     pub bytes: Vec<u8>,
-    /// Moves or steps that were made; [`tbl`] counts none.
+    /// Moves or steps that were made; [`tbl`] counts none, nor do the calls with a page's own table.
     pub moves: u64,
     /// Of [`tbl`]: what was wrong first, and on which line, counted from 1.
     pub wrong: Option<(Wrong, u64)>,
@@ -148,9 +151,12 @@ pub fn preconv(table: Option<Table>, text: &[u8]) -> Result<Made, Stopped> {
 /// As [`mdoc()`].
 pub fn tbl(table: Option<Table>, line: usize, text: &[u8]) -> Result<Made, Stopped> {
     let number = table.map_or(0, |table| table as u32);
-    let (bytes, reported) =
-        made("tbl", text, |output, report| nulbiko_tbl_lent(Global, number, line, text, output, report))?;
-    Ok(Made { bytes, moves: 0, wrong: Wrong::numbered(reported.limit).map(|wrong| (wrong, reported.at)), dropped: 0 })
+    made("tbl", text, |output, report| nulbiko_tbl_lent(Global, number, line, text, output, report)).map(set)
+}
+
+/// What was made of tables.
+fn set((bytes, report): (Vec<u8>, Report)) -> Made {
+    Made { bytes, moves: 0, wrong: Wrong::numbered(report.limit).map(|wrong| (wrong, report.at)), dropped: 0 }
 }
 
 /// Formats a text, as nroff does. Macro files, as [`MAN`](crate::MAN), stand at its front: it opens no file. The first page has
@@ -177,4 +183,41 @@ pub fn format(limits: &Limits, first: i64, bold: bool, text: &[u8]) -> Result<Ma
 pub fn utf8(table: Table, escapes: bool, text: &[u8]) -> Result<Made, Stopped> {
     made("utf8", text, |output, report| nulbiko_utf8_lent(Global, table as u32, escapes, text, output, report))
         .map(plain)
+}
+
+/// The table that [`document`] gives a page in UTF-8: one of its own where that of [`choose`] lacks a letter with its marks that
+/// the page prints. None where there was no memory.
+#[must_use]
+pub fn choose_own(page: &[u8]) -> Option<Choice> {
+    match nulbiko_choose_own_lent(Global, page) {
+        OWN => Some(Choice::Own),
+        number => Table::numbered(number).map(Choice::Fixed),
+    }
+}
+
+/// [`preconv`] with a table of the page's own, of what its first MiB prints, as it was before [`mdoc()`].
+///
+/// # Errors
+///
+/// As [`mdoc()`].
+pub fn preconv_own(page: &[u8], text: &[u8]) -> Result<Made, Stopped> {
+    made("preconv_own", text, |output, report| nulbiko_preconv_own_lent(Global, page, text, output, report)).map(plain)
+}
+
+/// [`tbl`] with boxes of that table.
+///
+/// # Errors
+///
+/// As [`mdoc()`].
+pub fn tbl_own(page: &[u8], line: usize, text: &[u8]) -> Result<Made, Stopped> {
+    made("tbl_own", text, |output, report| nulbiko_tbl_own_lent(Global, page, line, text, output, report)).map(set)
+}
+
+/// [`utf8`] of the bytes of that table.
+///
+/// # Errors
+///
+/// As [`mdoc()`].
+pub fn utf8_own(page: &[u8], escapes: bool, text: &[u8]) -> Result<Made, Stopped> {
+    made("utf8_own", text, |output, report| nulbiko_utf8_own_lent(Global, page, escapes, text, output, report)).map(plain)
 }

@@ -107,10 +107,19 @@ impl Table {
     }
 }
 
+/// The table that a page takes.
+#[derive(Clone, Copy, Debug, PartialEq, Eq)]
+pub enum Choice {
+    /// That of [`choose`](crate::choose).
+    Fixed(Table),
+    /// One of its own, as [`preconv_own`](crate::preconv_own) makes it.
+    Own,
+}
+
 /// What characters a page of [`document`](crate::document()) has.
 #[derive(Clone, Copy, Debug, PartialEq, Eq)]
 pub enum Characters {
-    /// Those of the table that [`choose`](crate::choose) gives for it.
+    /// Those of the table that [`choose`](crate::choose) gives for it, or in UTF-8 [`choose_own`](crate::choose_own).
     Chosen,
     /// Those of a table.
     Of(Table),
@@ -246,7 +255,8 @@ pub enum Why {
 /// A call didn't do all.
 #[derive(Clone, Debug, PartialEq, Eq)]
 pub struct Stopped {
-    /// The call: `document`, `run`, `open`, `mdoc`, `preconv`, `tbl`, `format`, `utf8` or `page`.
+    /// The call: `document`, `run`, `open`, `mdoc`, `preconv`, `tbl`, `format`, `utf8`, `preconv_own`, `tbl_own`, `utf8_own` or
+    /// `page`.
     pub call: &'static str,
     /// Why it stopped.
     pub why: Why,

@@ -1,6 +1,6 @@
 //! The examples of nroff, through the library: each input gives the pages that it must give.
 
-use nulbiko::{Form, Handle, Limits, MAN, Options, Stopped, Why};
+use nulbiko::{Choice, Form, Handle, Limits, MAN, Options, Stopped, Why};
 use std::fs;
 use std::path::{Path, PathBuf};
 
@@ -71,6 +71,31 @@ fn a_document_is_its_stages_in_order() {
         let made = nulbiko::document(&Limits::PLAIN, &options, nulbiko::MAN, WHOLE).unwrap();
         assert_eq!(made.bytes, wanted);
     }
+}
+
+/// Pages with tables of their own, in Czech and in Japanese.
+const NATIVE: [&str; 2] = [
+    ".TH A 1\n.SH NÁZEV\nA \\- překlad, \\fIřeč\\fP a “Ťuk”\n.TS\nbox;\nl l.\nž\tŇ\n.TE\n",
+    ".Dd 2026\n.Dt A 1\n.Os\n.Sh 名前\n.Nm ls\n.Nd 一覧、Ř\n.TS\nbox;\nl.\n日本\n.TE\n",
+];
+
+#[test]
+fn a_page_with_its_own_table_is_its_stages_in_order() {
+    for page in NATIVE.map(str::as_bytes) {
+        assert_eq!(nulbiko::choose_own(page), Some(Choice::Own));
+        let turned = nulbiko::preconv_own(page, &nulbiko::mdoc(page).unwrap().bytes).unwrap().bytes;
+        let mut whole = b".nr L 78\n.nr C 1\n".to_vec();
+        whole.extend_from_slice(nulbiko::MAN);
+        whole.extend_from_slice(&nulbiko::tbl_own(page, 78, &turned).unwrap().bytes);
+        for (bold, form) in [(false, Form::Utf8), (true, Form::Utf8), (true, Form::Escapes)] {
+            let pages = nulbiko::format(&Limits::PLAIN, 1, bold, &whole).unwrap().bytes;
+            let wanted = nulbiko::utf8_own(page, form == Form::Escapes, &pages).unwrap().bytes;
+            let options = Options { bold, form, ..Options::PAGE };
+            let made = nulbiko::document(&Limits::PLAIN, &options, nulbiko::MAN, page).unwrap();
+            assert_eq!(made.bytes, wanted);
+        }
+    }
+    assert_eq!(nulbiko::choose_own(WHOLE), nulbiko::choose(WHOLE).map(Choice::Fixed));
 }
 
 #[test]

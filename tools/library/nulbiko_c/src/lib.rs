@@ -8,9 +8,11 @@ use kit::alloc::Global;
 use nulbiko_lent::{DocumentSetup, Report as Reported};
 use nulbiko_lent::document::nulbiko_document_lent;
 use nulbiko_lent::formatting::nulbiko_format_lent;
+use nulbiko_lent::looked::nulbiko_choose_own_lent;
 use nulbiko_lent::mdoc::nulbiko_mdoc_lent;
 use nulbiko_lent::preconv::nulbiko_preconv_lent;
-use nulbiko_lent::tbl::nulbiko_tbl_lent;
+use nulbiko_lent::staged::{nulbiko_preconv_own_lent, nulbiko_utf8_own_lent};
+use nulbiko_lent::tbl::{nulbiko_tbl_lent, nulbiko_tbl_own_lent};
 use nulbiko_lent::utf8::{nulbiko_choose_lent, nulbiko_utf8_lent};
 use std::slice::{from_raw_parts, from_raw_parts_mut};
 use structs::{DocumentOptions, Limits, NOTHING, Options, Report};
@@ -88,6 +90,22 @@ unsafe fn asked<'a>(
     // Sound: a text of no bytes may be null, and so its pointer isn't taken.
     let macros = if macros_length == 0 { &[][..] } else { unsafe { from_raw_parts(macros, macros_length) } };
     Ok((options.under(limits), macros))
+}
+
+/// The page whose own table a call makes, as C passes it, or what is wrong with it.
+///
+/// # Safety
+///
+/// The pointer is null or leads to as much as C said.
+unsafe fn looked_at<'a>(page: *const u8, length: usize) -> Result<&'a [u8], u32> {
+    if page.is_null() && length > 0 {
+        return Err(NULL);
+    }
+    if length > isize::MAX as usize {
+        return Err(TOO_LONG);
+    }
+    // Sound: a text of no bytes may be null, and so its pointer isn't taken.
+    Ok(if length == 0 { &[][..] } else { unsafe { from_raw_parts(page, length) } })
 }
 
 /// Prints a whole page.
@@ -230,4 +248,92 @@ pub unsafe extern "C" fn nulbiko_choose(input: *const u8, length: usize) -> u32 
         return 0;
     }
     nulbiko_choose_lent(Global, unsafe { from_raw_parts(input, length) })
+}
+
+/// The table that a page takes, which may be one of its own.
+///
+/// # Safety
+///
+/// As the header says.
+#[unsafe(no_mangle)]
+pub unsafe extern "C" fn nulbiko_choose_own(page: *const u8, length: usize) -> u32 {
+    // Sound: as the header asks for; so for all that follows.
+    unsafe { looked_at(page, length) }.map_or(0, |page| nulbiko_choose_own_lent(Global, page))
+}
+
+/// Turns what manual pages use into the language of `nulbiko_format`, with a table of the page's own.
+///
+/// # Safety
+///
+/// As the header says.
+#[unsafe(no_mangle)]
+pub unsafe extern "C" fn nulbiko_preconv_own(
+    page: *const u8,
+    page_length: usize,
+    input: *const u8,
+    length: usize,
+    output: *mut u8,
+    capacity: usize,
+    report: *mut Report,
+) -> u32 {
+    let passed = Passed { input, length, output, capacity, report };
+    unsafe {
+        let page = looked_at(page, page_length);
+        passed.call(|input, output, reported| match page {
+            Ok(page) => nulbiko_preconv_own_lent(Global, page, input, output, reported),
+            Err(outcome) => outcome,
+        })
+    }
+}
+
+/// Turns tables into the language of `nulbiko_format`, with a table of the page's own.
+///
+/// # Safety
+///
+/// As the header says.
+#[unsafe(no_mangle)]
+pub unsafe extern "C" fn nulbiko_tbl_own(
+    page: *const u8,
+    page_length: usize,
+    line: usize,
+    input: *const u8,
+    length: usize,
+    output: *mut u8,
+    capacity: usize,
+    report: *mut Report,
+) -> u32 {
+    let passed = Passed { input, length, output, capacity, report };
+    unsafe {
+        let page = looked_at(page, page_length);
+        passed.call(|input, output, reported| match page {
+            Ok(page) => nulbiko_tbl_own_lent(Global, page, line, input, output, reported),
+            Err(outcome) => outcome,
+        })
+    }
+}
+
+/// Turns bytes of a page's own table into its characters.
+///
+/// # Safety
+///
+/// As the header says.
+#[unsafe(no_mangle)]
+pub unsafe extern "C" fn nulbiko_utf8_own(
+    page: *const u8,
+    page_length: usize,
+    escapes: bool,
+    input: *const u8,
+    length: usize,
+    output: *mut u8,
+    capacity: usize,
+    report: *mut Report,
+) -> u32 {
+    let passed = Passed { input, length, output, capacity, report };
+    unsafe {
+        let page = looked_at(page, page_length);
+        passed.call(|input, output, reported| match page {
+            Ok(page) => nulbiko_utf8_own_lent(Global, page, escapes, input, output, reported),
+            Err(outcome) => outcome,
+        })
+    }
 }
