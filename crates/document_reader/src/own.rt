@@ -32,7 +32,7 @@ pub fn read_own_page<'a, R: Source + Drop>(
 ) -> OwnText<'a, R>
     requires good { Good table.now }
     requires first { 73984 ≤ length waits.first.now }
-    requires second { 73984 ≤ length waits.second.now }
+    requires second { 1536 ≤ length waits.second.now }
     requires blocks { 64 ≤ length waits.blocks.now }
     requires room { 32 ≤ length room.now }
     ensures whole { (q : Supply) → R.supply input ≡ Some q → breaks_off q.faults ≡ false →

@@ -23,7 +23,7 @@ pub struct Stages {
 pub struct Waits<'a> {
     /// For mdoc, 73,984 bytes at least.
     pub first: &'a mut [u8],
-    /// For characters, as many.
+    /// For characters, 1,536 at least.
     pub second: &'a mut [u8],
     /// The lists and displays that are open, 64 at least.
     pub blocks: &'a mut [Block],
@@ -55,7 +55,7 @@ pub fn read_page<'a, R: Source + Drop>(
     waits: Waits<'a>,
 ) -> PageText<'a, R>
     requires first { 73984 ≤ length waits.first.now }
-    requires second { 73984 ≤ length waits.second.now }
+    requires second { 1536 ≤ length waits.second.now }
     requires blocks { 64 ≤ length waits.blocks.now }
     // It gives what the stages make of the page, one after the other, and fails where the page does.
     ensures whole { (q : Supply) → R.supply input ≡ Some q → breaks_off q.faults ≡ false →

@@ -2,11 +2,11 @@
 ghost use Rattle.std.specs.Prelude.{◌≤◌, length};
 
 use super::page::Waits;
-use document_stages::{Ahead, LEAST_ROOM};
+use document_stages::Ahead;
 use mdoc_converter::Block;
 
 /// How many bytes are read ahead at once.
-const AHEAD: usize = 4_096;
+const AHEAD: usize = 2_048;
 
 /// The most lists and displays of mdoc(7) that are open.
 const MOST_BLOCKS: usize = 64;
@@ -14,11 +14,14 @@ const MOST_BLOCKS: usize = 64;
 /// The room for what mdoc makes: more than one of its turns wants, so that it reads many bytes in one.
 const MAN_ROOM: usize = 81_920;
 
-/// Places for all that waits while a page is read: 300 kB.
+/// The room for what characters become, of a thousand bytes that come.
+const TEXT_ROOM: usize = 8_192;
+
+/// Places for all that waits while a page is read: 130 kB.
 #[derive(Drop)]
 pub struct Places {
     first: [u8; MAN_ROOM],
-    second: [u8; LEAST_ROOM],
+    second: [u8; TEXT_ROOM],
     blocks: [Block; MOST_BLOCKS],
     man: [u8; AHEAD],
     man_lines: [u64; AHEAD],
@@ -31,7 +34,7 @@ impl Places {
     pub fn new() -> Places {
         Places {
             first: [0; MAN_ROOM],
-            second: [0; LEAST_ROOM],
+            second: [0; TEXT_ROOM],
             blocks: [Block::NONE; MOST_BLOCKS],
             man: [0; AHEAD],
             man_lines: [0; AHEAD],
@@ -43,7 +46,7 @@ impl Places {
     /// Lends them to one page.
     pub fn lend(&mut self) -> Waits<'_>
         ensures first { 73984 ≤ length result.first.now }
-        ensures second { 73984 ≤ length result.second.now }
+        ensures second { 1536 ≤ length result.second.now }
         ensures blocks { 64 ≤ length result.blocks.now }
     {
         let Places {
