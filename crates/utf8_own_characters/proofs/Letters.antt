@@ -1,4 +1,4 @@
--- A letter of three bytes is read at once: with the first two nothing ends.
+-- A character of two bytes or three is read at once: with those before its last byte nothing ends.
 use Rattle.std.proofs.Common.{◌≡◌, ℕ, ◌%◌, ◌≤◌, ◌<◌, List, [], ◌∷◌, ◌++◌, ◌+◌, length, take, drop, get_or, Bool, true, false, ◌&&◌, nat_le, nat_lt, if◌then◌else◌, Option, None, Some, refl, sym, ◌∙◌, ap, append-nil, append_assoc, arith}
 use Rattle.std.proofs.lemmas.Bool.Decides.{nat_tests}
 use Rattle.std.proofs.lemmas.List.{drop-drop, take-append-drop, take-take}
@@ -7,13 +7,13 @@ use Rattle.utf8_own_characters.specs.declared.decoding.Decoded.{Decoded}
 use Rattle.utf8_own_characters.specs.declared.listening.Listener.{Listener}
 use Rattle.utf8_own_characters.specs.declared.listening.Listened.{Listened}
 use Rattle.utf8_own_characters.specs.Decoding.{decoded, with_six}
-use Rattle.utf8_own_characters.specs.Listening.{after, done_in, going, heard, is_three, is_within, read}
+use Rattle.utf8_own_characters.specs.Listening.{after, done_in, going, heard, is_three, is_two, is_within, read}
 use Rattle.utf8_own_characters.specs.Looking.{noted, seen}
 use Rattle.utf8_own_characters.specs.Reading.{list_of}
 use Rattle.utf8_own_characters.specs.declared.cluster.Cluster.{Cluster}
 use Rattle.utf8_own_characters.specs.declared.counting.Count.{Count}
 use Rattle.utf8_own_characters.proofs.Tests.{and_first, and_second}
-use Rattle.utf8_own_characters.proofs.TextsRead.{lead_three, tail}
+use Rattle.utf8_own_characters.proofs.TextsRead.{lead_three, lead_two, tail}
 
 -- ---- what comes of bytes
 
@@ -42,6 +42,13 @@ second_quiet l bits b is e =
     let high = high_of 0x80 0xBF b e in
     ap (λ (d : Decoded). heard (record l { part = d.part }) d.character)
     (ap (λ (p : Part). decoded p b) is ∙ tail (record { bits = bits; left = 2 }) b low (omega (arith, high)))
+
+pair_quiet : (l : Listener) (a b : ℕ) → is_two a b ≡ true → read l a ≡ going (record l { part = record { bits = a % 32; left = 1 } }) l.held
+pair_quiet l a b two =
+    let first = and_first (is_within 0xC0 0xDF a) (is_within 0x80 0xBF b) two in
+    let low = low_of 0xC0 0xDF a first in
+    let high = high_of 0xC0 0xDF a first in
+    ap (λ (d : Decoded). heard (record l { part = d.part }) d.character) (lead_two l.part a low (omega (arith, high)))
 
 -- with the first two bytes of a letter nothing ends
 pub record NothingEnds (l : Listener) (a b : ℕ) : Type 0 where
@@ -73,6 +80,12 @@ three_done l a b c three =
     ∙ ap (λ (x : Listened). list_of (read x.listener c).done ++ []) (sym q.second)
     ∙ ap (λ (x : Listened). list_of (read (read x.listener b).listener c).done ++ []) (sym q.first)
 
+two_done : (l : Listener) (a b : ℕ) → is_two a b ≡ true → done_in l (a ∷ b ∷ []) ≡ list_of (read (read l a).listener b).done ++ []
+two_done l a b two =
+    let q = pair_quiet l a b two in
+    ap (λ (x : Listened). list_of x.done ++ done_in x.listener (b ∷ [])) q
+    ∙ ap (λ (x : Listened). list_of (read x.listener b).done ++ []) (sym q)
+
 seen_one : (room : ℕ) (xs : List Count) (done : Option Cluster) → noted room xs done ≡ seen room xs (list_of done ++ [])
 seen_one room xs None = refl
 seen_one room xs (Some c) = refl
@@ -82,6 +95,11 @@ prefix_three [] l = absurd (omega arith)
 prefix_three (a ∷ []) l = absurd (omega arith)
 prefix_three (a ∷ b ∷ []) l = absurd (omega arith)
 prefix_three (a ∷ b ∷ c ∷ bs) l = refl
+
+pub prefix_two : (bs : List ℕ) → 2 ≤ length bs → take 2 bs ≡ get_or bs 0 0 ∷ get_or bs 1 0 ∷ []
+prefix_two [] l = absurd (omega arith)
+prefix_two (a ∷ []) l = absurd (omega arith)
+prefix_two (a ∷ b ∷ bs) l = refl
 
 pub prefix_one : (bs : List ℕ) → 1 ≤ length bs → take 1 bs ≡ get_or bs 0 0 ∷ []
 prefix_one [] l = absurd (omega arith)
@@ -98,6 +116,16 @@ letter_noted room xs l bs x long three is =
     ap (λ (y : Listened). noted room xs y.done) is
     ∙ seen_one room xs (read (read (read l a).listener b).listener c).done
     ∙ ap (seen room xs) (sym (three_done l a b c three) ∙ ap (done_in l) (sym (prefix_three bs long)))
+
+pub pair_noted : (room : ℕ) (xs : List Count) (l : Listener) (bs : List ℕ) (x : Listened) → 2 ≤ length bs
+    → is_two (get_or bs 0 0) (get_or bs 1 0) ≡ true → x ≡ read (read l (get_or bs 0 0)).listener (get_or bs 1 0)
+    → noted room xs x.done ≡ seen room xs (done_in l (take 2 bs))
+pair_noted room xs l bs x long two is =
+    let a = get_or bs 0 0 in
+    let b = get_or bs 1 0 in
+    ap (λ (y : Listened). noted room xs y.done) is
+    ∙ seen_one room xs (read (read l a).listener b).done
+    ∙ ap (seen room xs) (sym (two_done l a b two) ∙ ap (done_in l) (sym (prefix_two bs long)))
 
 pub byte_noted : (room : ℕ) (xs : List Count) (l : Listener) (bs : List ℕ) (x : Listened) → 1 ≤ length bs
     → x ≡ read l (get_or bs 0 0) → noted room xs x.done ≡ seen room xs (done_in l (take 1 bs))

@@ -34,7 +34,7 @@ tail p b low high =
     ∙ ap (λ (x : Bool). shape x (nat_lt b 192) (nat_lt b 224) (nat_lt b 240) (nat_lt b 248) p b) (lt_not b 128 low)
     ∙ ap (λ (y : Bool). shape false y (nat_lt b 224) (nat_lt b 240) (nat_lt b 248) p b) (lt_so b 192 high)
 
-lead_two : (p : Part) (b : ℕ) → 192 ≤ b → b < 224 → decoded p b ≡ going (b % 32) 1
+pub lead_two : (p : Part) (b : ℕ) → 192 ≤ b → b < 224 → decoded p b ≡ going (b % 32) 1
 unfolding shape
 lead_two p b low high =
     shaped p b

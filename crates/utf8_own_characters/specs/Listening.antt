@@ -63,7 +63,14 @@ heard l (Some c) = hear l c
 abbrev pub read : Listener → ℕ → Listened
 read l b = heard (record l { part = (decoded l.part b).part }) (decoded l.part b).character
 
--- ---- a letter of three bytes
+-- ---- a character of two bytes, and a letter of three
+
+-- the first begins a character of two, and the other goes it on
+abbrev pub is_two : ℕ → ℕ → Bool
+is_two a b = is_within 0xC0 0xDF a && is_within 0x80 0xBF b
+
+abbrev pub begins_two : List ℕ → Bool
+begins_two bytes = is_two (get_or bytes 0 0) (get_or bytes 1 0)
 
 -- the first begins a character of three, and the others go one on
 abbrev pub is_three : ℕ → ℕ → ℕ → Bool

@@ -94,6 +94,23 @@ pub fn begins_letter(bytes: &[u8]) -> bool
         && are_letter(bytes[0], bytes[1], bytes[2])
 }
 
+/// Whether these are two bytes of which the first begins a character of two, and the other goes it on.
+#[inline(always)]
+fn is_two(a: u8, b: u8) -> bool
+    ensures { result ≡ specs.is_two a b }
+{
+    matches!(a, 0xC0..=0xDF) && matches!(b, 0x80..=0xBF)
+}
+
+/// Whether these bytes begin with a character of two bytes, which can be read at once.
+#[inline(always)]
+pub(crate) fn begins_pair(bytes: &[u8]) -> bool
+    ensures long { result ≡ true → 2 ≤ length bytes.now }
+    ensures two { result ≡ true → specs.begins_two bytes.now ≡ true }
+{
+    bytes.len() >= 2 && is_two(bytes[0], bytes[1])
+}
+
 impl Listener {
     /// A text begins.
     pub fn new() -> Listener
@@ -184,6 +201,14 @@ impl Listener {
             Some(character) => listener.hear(character),
             None => listener.going(self.held),
         }
+    }
+
+    /// What comes of the last of two bytes.
+    #[inline(always)]
+    pub(crate) fn read_two(self, a: u8, b: u8) -> Listened
+        ensures { result ≡ specs.read (specs.read self a).listener b }
+    {
+        self.read(a).listener.read(b)
     }
 
     /// What comes of the last of three bytes.

@@ -1,12 +1,12 @@
 //! A first look at what a page prints: how often each of its clusters comes.
 ghost use Rattle.std.specs.Prelude.{◌≡◌, ◌<◌, ◌≤◌, length, take, true};
 ghost use Rattle.utf8_own_characters.specs.Counting.{is_once};
-ghost use Rattle.utf8_own_characters.specs.Listening.{after, begins_three, done_in};
+ghost use Rattle.utf8_own_characters.specs.Listening.{after, begins_three, begins_two, done_in};
 ghost use Rattle.utf8_own_characters.specs.Looking as specs;
 
 use super::cluster::Cluster;
 use super::counting::{Count, count_cluster};
-use super::listening::{Listener, begins_letter};
+use super::listening::{Listener, begins_letter, begins_pair};
 use nr_vectors::slice_vec::SliceVec;
 use unicode_width::UnicodeWidthChar;
 
@@ -81,7 +81,7 @@ fn look_at_one(
     note(counts, slots, listened.done)
 }
 
-/// The same of a byte that is neither of ASCII nor the first of a letter.
+/// The same of a byte that is neither of ASCII nor the first of a character of two or three.
 #[inline(never)]
 fn look_at_other(
     bytes: &[u8],
@@ -120,7 +120,28 @@ fn look_at_letter(
     note(counts, slots, listened.done)
 }
 
-/// Looks at the first of these bytes, or at the letter that they begin with.
+/// Looks at the character of two bytes that these begin with: with the first nothing ends.
+#[inline(always)]
+fn look_at_pair(
+    bytes: &[u8],
+    listener: &mut Listener,
+    counts: &mut SliceVec<'_, Count>,
+    slots: &mut [u16],
+) -> bool
+    requires long { 2 ≤ length bytes.now }
+    requires two { begins_two bytes.now ≡ true }
+    requires once { is_once counts.old.items ≡ true }
+    ensures items { counts.new.items ≡ specs.seen counts.old.capacity counts.old.items (done_in listener.old (take 2 bytes.now)) }
+    ensures listener { listener.new ≡ after listener.old (take 2 bytes.now) }
+    ensures once { is_once counts.new.items ≡ true }
+    ensures room { counts.new.capacity ≡ counts.old.capacity }
+{
+    let listened = listener.read_two(bytes[0], bytes[1]);
+    *listener = listened.listener;
+    note(counts, slots, listened.done)
+}
+
+/// Looks at the first of these bytes, or at the character that they begin with.
 #[inline(always)]
 fn look_at_first(
     bytes: &[u8],
@@ -144,6 +165,10 @@ fn look_at_first(
     if begins_letter(bytes) {
         let fits = look_at_letter(bytes, listener, counts, slots);
         return Looked { count: 3, fits };
+    }
+    if begins_pair(bytes) {
+        let fits = look_at_pair(bytes, listener, counts, slots);
+        return Looked { count: 2, fits };
     }
     let fits = look_at_other(bytes, listener, counts, slots);
     Looked { count: 1, fits }
