@@ -1,7 +1,6 @@
 pub mod Aheads
 pub mod Bytewise
 pub mod Coming
-pub mod Fullest
 pub mod Kept
 pub mod Leaving
 pub mod Reading

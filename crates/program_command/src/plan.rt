@@ -6,14 +6,13 @@ ghost use Rattle.program_command.specs.Plan.{AreOptions, IsSelected, has_escapes
 use crate::surroundings::Surroundings;
 use arrayvec::ArrayVec;
 use document_printing::{PageLimits, Stages, has_tables};
-use document_stages::Text;
 use nr_engine::{Faces as Looks, Options};
 use nr_page::Select;
 use program_options::{Device, Faces, Job};
 use program_plan::{Macros, cells_of};
 use std::alloc::{AllocError, Global};
 use utf8_characters::FixedTable;
-use utf8_converter::{CHARACTERS, choose};
+use utf8_converter::{CHARACTERS, choose_of};
 
 /// The bytes of a text that say what it is, and what characters it has.
 pub(crate) const LOOKED_AT: usize = 65_536;
@@ -100,14 +99,8 @@ fn table_of(device: Device, prefix: &[u8], alloc: Global) -> Result<Option<Fixed
 fn fullest(prefix: &[u8], alloc: Global) -> Result<FixedTable, AllocError>
     ensures { IfOk result (λ table. table ≡ table_with_most prefix.now) }
 {
-    let mut page = vec![in alloc; 0u8; LOOKED_AT]?;
     let mut counts = vec![in alloc; 0u32; CHARACTERS]?;
-    let mut text = Text::over(prefix);
-    match choose(&mut text, &mut page, &mut counts) {
-        Ok(table) => Ok(table),
-        // A slice doesn't fail.
-        Err(_) => unreachable!(),
-    }
+    Ok(choose_of(prefix, &mut counts))
 }
 
 /// Whether what is underlined or bold stands between escape sequences, where `shows` says that the output is a terminal.

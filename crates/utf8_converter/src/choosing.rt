@@ -1,5 +1,5 @@
 //! The table that a page takes.
-ghost use Rattle.std.specs.Prelude.{◌≡◌, ◌<◌, ◌≤◌, [], length, get_or, OnOk, true, false};
+ghost use Rattle.std.specs.Prelude.{◌≡◌, ◌<◌, ◌≤◌, [], length, take, get_or, OnOk, true, false};
 ghost use Rattle.std.specs.List.{sum_by};
 ghost use Rattle.nr_units.specs.Failures.{counted};
 ghost use Rattle.utf8_converter.specs.Choosing as specs;
@@ -235,6 +235,24 @@ fn read_prefix<R: Source>(input: &mut R, page: &mut SliceVec<'_, u8>) -> Result<
         }
     }
     Ok(())
+}
+
+/// The bytes of a page that are looked at.
+fn first_of(page: &[u8]) -> &[u8]
+    ensures { result.now ≡ take 65536 page.now }
+{
+    &page[..LOOKED_AT.min(page.len())]
+}
+
+/// Chooses a table for a page that is at hand, as `choose` does: by its first 65,536 bytes. The slice holds what is counted.
+///
+/// Proved: The table of a page at hand is that of `choose`. (`choose_of`)
+pub fn choose_of(page: &[u8], counts: &mut [u32]) -> FixedTable
+    requires { length counts.old ≡ 10240 }
+    ensures { result ≡ specs.chosen (take 65536 page.now) }
+{
+    count_all(first_of(page), counts);
+    chosen(counts)
 }
 
 /// Chooses a table for a page, by its first 65,536 bytes: the one that has most of the characters of UTF-8 in them, and

@@ -18,7 +18,7 @@ mod undoing;
 mod waiting;
 
 pub use came::Came;
-pub use choosing::{CHARACTERS, LOOKED_AT, choose};
+pub use choosing::{CHARACTERS, LOOKED_AT, choose, choose_of};
 pub use document_stages::RunEnd;
 pub use running::convert;
 pub use showing::Shown;
