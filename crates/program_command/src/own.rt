@@ -11,7 +11,7 @@ ghost use Rattle.program_command.specs.Printing.{AreShort, OwnShows, Printed, Wh
 use crate::plan::Plan;
 use crate::printing::{Means, print_fixed, print_page};
 use document_printing::{PageTable, Report, Rooms, Setup, Showing, Spelling, Stages};
-use document_reader::{Places, read_own_page, read_page};
+use document_reader::{Places, read_own_page, skim_page};
 use document_stages::Text;
 use nr_engine::{Desk, Sink, Source};
 use nr_vectors::CountedAlloc;
@@ -38,7 +38,7 @@ fn count_prefix(plan: &Plan, prefix: &[u8], alloc: Global) -> Result<Vec<Count>,
     ensures once { IfOk result (λ counts. is_once counts.items ≡ true) }
 {
     let mut places = Places::new();
-    let mut text = read_page(Text::over(prefix), plan.stages, Target::Utf8, places.lend());
+    let mut text = skim_page(Text::over(prefix), plan.stages, Target::Utf8, places.lend());
     counted(alloc, &mut text, plan.tables)
 }
 
