@@ -1,9 +1,5 @@
 -- The first bytes of a source, and then the others, are what it was to give.
-use Rattle.std.proofs.Common.{◌≡◌, ℕ, ◌+◌, ◌≤◌, List, ◌++◌, length, take, Option, None, Some, refl, sym, ◌∙◌, ap, subst, append_assoc, length-append, arith}
-use Rattle.std.proofs.Math.Seq.{take-append-add}
-use Rattle.std.proofs.lemmas.List.{length-take-le, take-take}
-use Rattle.std.proofs.lemmas.Slice.{take-put_mid}
-use borrow.Rule.Slice.PartMut.{put_mid}
+use Rattle.std.proofs.Common.{◌≡◌, ℕ, ◌+◌, List, ◌++◌, length, Option, None, Some, refl, sym, ◌∙◌, ap, subst, append_assoc, length-append, arith}
 use Rattle.nr_units.specs.Source.{Faults, Never, After, Anytime, Supply}
 use Rattle.document_stages.specs.Joined.{after_more, joined}
 use Rattle.document_stages.specs.Pulling.{Stays}
@@ -35,13 +31,3 @@ further (Some q) (Some t) new xs ys first next = ap (joined xs) next ∙ first
 pub more-came : (known mid new : Option Supply) (xs ys all : List ℕ) → Stays known (joined xs mid) → Stays mid (joined ys new) → all ≡ xs ++ ys → Stays known (joined all new)
 more-came known mid new xs ys all first next is =
     subst (λ (z : Option Supply). Stays known z) (sym (ap (λ (zs : List ℕ). joined zs new) is ∙ joined_more xs ys new)) (further known mid new xs ys first next)
-
--- the bytes that came were put after those that were there
-pub taken-more : (a n k : ℕ) (xs ys : List ℕ) → a ≤ length xs → n ≤ length ys → take (a + n) (put_mid a k xs ys) ≡ take a xs ++ take n ys
-taken-more a n k xs ys within few =
-    let near : take (a + n) (put_mid a k xs ys) ≡ take (a + n) (take (a + length ys) (put_mid a k xs ys)) = sym (take-take (a + n) (a + length ys) (put_mid a k xs ys) (omega (arith, few))) in
-    let first : length (take a xs) ≡ a = length-take-le a xs within in
-    near
-    ∙ ap (take (a + n)) (take-put_mid a k xs ys (a + length ys) refl within)
-    ∙ ap (λ (m : ℕ). take (m + n) (take a xs ++ ys)) (sym first)
-    ∙ take-append-add (take a xs) ys n

@@ -18,7 +18,7 @@ mod showing;
 
 pub use document_reader::Stages;
 pub use laws::{lines_stay, reaches_terminal};
-pub use prefix::{Prefixed, has_tables, hold};
+pub use prefix::{Prefixed, has_tables};
 pub use printing::print;
 pub use setup::{PageEnd, Report, Setup};
 pub use showing::{PageTable, Showing, Spelling, print_shown};

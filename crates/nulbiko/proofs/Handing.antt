@@ -1,7 +1,8 @@
 -- What came of a source stands at the beginning of an output, and what is to come follows it.
 use Rattle.std.proofs.Common.{◌≡◌, ℕ, ◌+◌, ◌<◌, ◌≤◌, List, [], ◌∷◌, ◌++◌, length, take, drop, Option, None, Some, Ok, refl, sym, ◌∙◌, ap, subst, slice_set, arith}
-use Rattle.std.proofs.Math.Seq.{drop-append-add}
-use Rattle.std.proofs.lemmas.List.{drop-append-le, drop-drop, length-take-le, take-append-drop}
+use Rattle.std.proofs.Math.Seq.{drop-append-add, take-append-add}
+use Rattle.std.proofs.lemmas.List.{drop-append-le, drop-drop, length-take-le, take-append-drop, take-take}
+use Rattle.std.proofs.lemmas.Slice.{take-put_mid}
 use borrow.Rule.Slice.PartMut.{put_mid}
 use Rattle.nr_units.specs.Source.{Faults, Never, After, Anytime, MayGive, Supply, Gives, one_later}
 use Rattle.nr_units.specs.declared.source.Fault.{Fault}
@@ -31,6 +32,16 @@ one-came (Some q) (Some t) room byte some gives =
     ∙ ap (λ (f : Faults). supplied (byte ∷ t.bytes) (after_more 1 f)) gives.1
     ∙ ap (λ (f : Faults). supplied (byte ∷ t.bytes) f) (same_faults q.faults gives.2)
     ∙ ap (λ (bytes : List ℕ). supplied bytes q.faults) (sym gives.0)
+
+-- the bytes that came were put after those that were there
+pub taken-more : (a n k : ℕ) (xs ys : List ℕ) → a ≤ length xs → n ≤ length ys → take (a + n) (put_mid a k xs ys) ≡ take a xs ++ take n ys
+taken-more a n k xs ys within few =
+    let near : take (a + n) (put_mid a k xs ys) ≡ take (a + n) (take (a + length ys) (put_mid a k xs ys)) = sym (take-take (a + n) (a + length ys) (put_mid a k xs ys) (omega (arith, few))) in
+    let first : length (take a xs) ≡ a = length-take-le a xs within in
+    near
+    ∙ ap (take (a + n)) (take-put_mid a k xs ys (a + length ys) refl within)
+    ∙ ap (λ (m : ℕ). take (m + n) (take a xs ++ ys)) (sym first)
+    ∙ take-append-add (take a xs) ys n
 
 -- ---- what stands after them
 

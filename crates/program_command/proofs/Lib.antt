@@ -3,6 +3,7 @@ pub mod Bytewise
 pub mod Coming
 pub mod Kept
 pub mod Leaving
+pub mod Prefixes
 pub mod Reading
 pub mod Shown
 pub mod Telling

@@ -17,11 +17,9 @@ use Rattle.document_printing.specs.declared.setup.Report.{Report}
 use Rattle.program_options.specs.Job.{Asked}
 use Rattle.program_options.specs.declared.plain.Faces.{Faces}
 use Rattle.program_options.specs.declared.plain.Faces.TheVariants as faces
-use Rattle.program_plan.specs.Kinds.{is_manual}
-use Rattle.program_plan.specs.Macros.{macros_of}
 use Rattle.program_plan.specs.Texts.{macro_names}
 use Rattle.program_command.specs.Own.{unshown_of}
-use Rattle.program_command.specs.Plan.{AreOptions, has_strikes, page_limits_of, plan_of}
+use Rattle.program_command.specs.Plan.{AreOptions, has_strikes, kind_of, page_limits_of, plan_of}
 use Rattle.program_command.specs.Printing.{AreShort, Printed, Where}
 use Rattle.program_command.specs.Running.{AreMacros, EndsBefore, EndsBy, PrefixGives, IsDocument, IsReported, Runs, files_of, first_of, is_for_others, text_of, under, with_named}
 use Rattle.document_sources.specs.Joining.{Texts}
@@ -105,13 +103,6 @@ Runs-from job around macros named files known prefix first ending a b still begu
       };
 }
 
-pub Stays-from : (s t known : Option Supply) → s ≡ t → Stays s known → Stays t known
-Stays-from s t known same still = subst (λ (x : Option Supply). Stays x known) same still
-
-pub Stays-refl : (known : Option Supply) → Stays known known
-Stays-refl None = tt
-Stays-refl (Some q) = refl
-
 -- ---- the macro files, and the pages after them
 
 pub files-are : {T : Type 0} → (supply : T → Option Supply) (job : Asked) (texts macros : List T) (count : ℕ)
@@ -145,7 +136,7 @@ Runs-same job around macros s t ending a b same runs = subst (λ (x : Option Sup
 
 pub PrefixGives-of : (job : Asked) (around : Surroundings) (files prefix : Option Supply) (first : List ℕ) (plan : Plan) (macros : List ℕ) (options : Options)
     (page_limits : PageLimits) (limits : Bounds) (report : Report) (ending : Ending) (a b : Option (List ℕ)) → Begins prefix first
-    → plan ≡ plan_of job around (macros_of (is_manual first) job) first → AreMacros job (macros_of (is_manual first) job) files macros
+    → plan ≡ plan_of job around (kind_of job first) first → AreMacros job (kind_of job first) files macros
     → AreOptions job plan options → page_limits ≡ page_limits_of job → limits ≡ job.limits
     → Where plan prefix (λ q. Printed plan first (record { macros = macros; options = options; page_limits = page_limits; limits = limits }) q report a b)
     → (AreShort plan.stages first → IsReported (first_of job.files) (unshown_of plan first) report ending) → PrefixGives job around files prefix ending a b

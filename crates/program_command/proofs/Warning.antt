@@ -25,7 +25,8 @@ use Rattle.program_plan.specs.declared.macros.Macros.TheVariants as kinds
 use Rattle.document_reader.specs.Page.{IsShort}
 use Rattle.program_command.specs.Printing.{AreAllShort}
 use Rattle.program_command.specs.Running.{under}
-use Rattle.program_command.specs.Warnings.{AreAhead, AreTablesOf, Heard, MayBeCut, PROGRAM, TellsAt, TellsBytes, TellsEach, TellsOne, TellsRead, TellsText, TellsTexts, heard, is_looked_at, kind_of, lines_of, macro_count, name_at, of_macros, of_man, of_tables, page_of, tables_job, unlooked, warnings_of}
+use Rattle.program_command.specs.Plan.{kind_of}
+use Rattle.program_command.specs.Warnings.{AreAhead, AreTablesOf, Heard, MayBeCut, PROGRAM, TellsAt, TellsBytes, TellsEach, TellsOne, TellsRead, TellsText, TellsTexts, heard, is_looked_at, lines_of, macro_count, name_at, of_macros, of_man, of_tables, page_of, tables_job, unlooked, warnings_of}
 
 is_false : (b : Bool) → not b ≡ true → b ≡ false
 is_false true h = sym h

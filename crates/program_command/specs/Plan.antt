@@ -17,6 +17,8 @@ use Rattle.program_options.specs.declared.plain.Device.TheVariants.{Utf8, Latin1
 use Rattle.program_options.specs.declared.plain.Faces.{Faces}
 use Rattle.program_options.specs.declared.plain.Faces.TheVariants as faces
 use Rattle.program_plan.specs.Before.{cells_of}
+use Rattle.program_plan.specs.Kinds.{is_manual}
+use Rattle.program_plan.specs.Macros.{macros_of}
 use Rattle.program_plan.specs.declared.macros.Macros.{Macros}
 use Rattle.program_plan.specs.declared.macros.Macros.TheVariants.{Manual}
 use Rattle.program_command.specs.declared.plan.Plan.{Plan}
@@ -59,7 +61,7 @@ stages_with other = record { mdoc = false; characters = true }
 
 -- tables are set where one begins in what was looked at, or more may follow
 abbrev pub may_have_tables : List ℕ → Bool
-may_have_tables first = ((length first == 65536) || (length first == 1048576)) || has_tables first
+may_have_tables first = (length first == 1048576) || has_tables first
 
 abbrev pub plan_for : Asked → Device → Bool → Macros → List ℕ → Plan
 plan_for job device shows kind first = record {
@@ -72,6 +74,10 @@ plan_for job device shows kind first = record {
   strikes = has_strikes job.plain.faces;
   checks = job.plain.checks;
 }
+
+-- the macros of a page, by its first 64 KiB
+abbrev pub kind_of : Asked → List ℕ → Macros
+kind_of job page = macros_of (is_manual (take 65536 page)) job
 
 -- HOW A PAGE IS PRINTED that begins so
 abbrev pub plan_of : Asked → Surroundings → Macros → List ℕ → Plan

@@ -13,14 +13,12 @@ use Rattle.document_printing.specs.declared.setup.Report.{Report}
 use Rattle.program_options.specs.Job.{Asked}
 use Rattle.program_options.specs.declared.plain.Faces.TheVariants as faces
 use Rattle.program_plan.specs.Before.{BeginsWith, is_of_manual}
-use Rattle.program_plan.specs.Kinds.{is_manual}
-use Rattle.program_plan.specs.Macros.{macros_of}
 use Rattle.program_plan.specs.declared.macros.Macros.{Macros}
 use Rattle.program_plan.specs.Others.{asks_for_others}
 use Rattle.program_plan.specs.Prefix.{prefix}
 use Rattle.program_plan.specs.Texts.{macro_names}
 use Rattle.program_command.specs.Own.{unshown_of}
-use Rattle.program_command.specs.Plan.{AreOptions, IsSelected, page_limits_of, plan_of}
+use Rattle.program_command.specs.Plan.{AreOptions, IsSelected, kind_of, page_limits_of, plan_of}
 use Rattle.program_command.specs.Printing.{AreAllShort, Printed}
 use Rattle.program_command.specs.declared.endings.Ending.{Ending}
 use Rattle.program_command.specs.declared.endings.Ending.TheVariants.{Done, Unshown, Limit, NoRoom, TooLong, ReadFault, WriteFault, OutOfMemory, NeedsOthers, LeftOut}
@@ -125,9 +123,9 @@ pub record IsDocument (job : Asked) (around : Surroundings) (files : Option Supp
   pub rest : List ℕ
   pub looked_at : q.bytes ≡ first ++ rest
   pub plan : Plan
-  pub plan_is : plan ≡ plan_of job around (macros_of (is_manual first) job) first
+  pub plan_is : plan ≡ plan_of job around (kind_of job first) first
   pub macros : List ℕ
-  pub macros_are : AreMacros job (macros_of (is_manual first) job) files macros
+  pub macros_are : AreMacros job (kind_of job first) files macros
   pub options : Options
   pub options_are : AreOptions job plan options
   pub report : Report

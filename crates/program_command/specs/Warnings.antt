@@ -1,5 +1,5 @@
 -- What is reported of texts in which something is wrong.
-use Rattle.std.specs.Prelude.{◌≡◌, ◌≢◌, ℕ, ◌+◌, ◌-◌, ◌≤◌, List, [], ◌∷◌, ◌++◌, drop, take, length, nat_le, codes, Bool, true, false, ◌&&◌, Option, None, Some, ◌⊎◌, if◌then◌else◌}
+use Rattle.std.specs.Prelude.{◌≡◌, ◌≢◌, ℕ, ◌+◌, ◌-◌, ◌≤◌, List, [], ◌∷◌, ◌++◌, drop, length, nat_le, codes, Bool, true, false, ◌&&◌, Option, None, Some, ◌⊎◌, if◌then◌else◌}
 use Rattle.std.specs.List.{concat}
 use Rattle.nr_units.specs.Failures.{SinkFailures}
 use Rattle.nr_units.specs.Source.{Never, Supply}
@@ -17,20 +17,16 @@ use Rattle.tbl_command.specs.declared.arguments.Job.{Job}
 use Rattle.tbl_command.specs.declared.looking.Tables.{Tables}
 use Rattle.program_options.specs.Job.{Asked}
 use Rattle.program_plan.specs.Before.{cells_of, is_of_manual}
-use Rattle.program_plan.specs.Kinds.{is_manual}
-use Rattle.program_plan.specs.Macros.{macros_of}
 use Rattle.program_plan.specs.Texts.{macro_names}
 use Rattle.program_plan.specs.declared.macros.Macros.{Macros}
 use Rattle.program_command.specs.Printing.{AreAllShort}
+use Rattle.program_command.specs.Plan.{kind_of}
 use Rattle.program_command.specs.Running.{first_of}
 
 -- ---- what is wrong with a page
 
 abbrev pub PROGRAM : List ℕ
 PROGRAM = codes "nulbiko"
-
-abbrev pub kind_of : Asked → List ℕ → Macros
-kind_of job page = macros_of (is_manual (take 65536 page)) job
 
 -- what mdoc tells of a page, where it has the macros of manual pages
 abbrev pub of_macros : Macros → List ℕ → List ℕ → List (List ℕ)

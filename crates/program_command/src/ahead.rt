@@ -1,5 +1,5 @@
 //! Texts that are read before they are printed.
-ghost use Rattle.std.specs.Prelude.{◌≡◌, IfOk, Some, false, true};
+ghost use Rattle.std.specs.Prelude.{◌≡◌, ◌<◌, IfOk, Ok, OnOk, Some, false, length, true};
 ghost use Rattle.nr_units.specs.Source.{Supply};
 ghost use Rattle.document_stages.specs.Joined.{joined};
 ghost use Rattle.document_stages.specs.Pulling.{Stays};
@@ -68,6 +68,46 @@ impl<S: Source> Source for Ahead<S> {
             self.rest.skip(n);
         }
     }
+}
+
+/// Takes some of the bytes that come next, so many at most, or none at the end and where the text fails. Tells whether some came.
+fn take_some<S: Source>(text: &mut S, most: usize, bytes: &mut Vec<u8>) -> Result<bool, AllocError>
+    requires { 0 < most }
+    ensures came { OnOk result (Stays (joined bytes.old.items (S.supply text.old)) (joined bytes.new.items (S.supply text.new))) }
+    ensures more { result ≡ Ok true → length bytes.old.items < length bytes.new.items }
+{
+    let window = text.window();
+    let count = window.len().min(most);
+    if count > 0 {
+        bytes.extend_from_slice(&window[..count])?;
+        text.skip(count);
+        return Ok(true);
+    }
+    match text.next() {
+        Ok(Some(byte)) => {
+            bytes.push(byte)?;
+            Ok(true)
+        }
+        _ => Ok(false),
+    }
+}
+
+/// Reads on in a text until so many bytes of it came, or to its end.
+///
+/// Proved: The first bytes of a text, which were looked at, and the others after them are what it was to give. (`read_prefix`)
+pub(crate) fn read_prefix<S: Source>(
+    text: &mut S,
+    most: usize,
+    bytes: &mut Vec<u8>,
+) -> Result<(), AllocError>
+    ensures { OnOk result (Stays (joined bytes.old.items (S.supply text.old)) (joined bytes.new.items (S.supply text.new))) }
+{
+    while bytes.len() < most {
+        if !take_some(text, most - bytes.len(), bytes)? {
+            return Ok(());
+        }
+    }
+    Ok(())
 }
 
 /// What was read of a text, and whether that is all of it.

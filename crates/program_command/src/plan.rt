@@ -1,7 +1,7 @@
 //! How a page is printed.
-ghost use Rattle.std.specs.Prelude.{◌≡◌, ◌==◌, ◌||◌, IfOk, length};
+ghost use Rattle.std.specs.Prelude.{◌≡◌, ◌==◌, IfOk, length, take};
 ghost use Rattle.program_options.specs.Job.{asked_of};
-ghost use Rattle.program_command.specs.Plan.{AreOptions, IsSelected, has_escapes, page_limits_of, plan_of, table_for, table_with_most};
+ghost use Rattle.program_command.specs.Plan.{AreOptions, IsSelected, has_escapes, kind_of, page_limits_of, plan_of, table_for, table_with_most};
 
 use crate::surroundings::Surroundings;
 use arrayvec::ArrayVec;
@@ -9,16 +9,14 @@ use document_printing::{PageLimits, Stages, has_tables};
 use nr_engine::{Faces as Looks, Options};
 use nr_page::Select;
 use program_options::{Device, Faces, Job};
-use program_plan::{Macros, cells_of};
+use program_plan::{Macros, cells_of, is_manual, macros_of};
 use std::alloc::{AllocError, Global};
 use utf8_characters::FixedTable;
 use utf8_converter::{CHARACTERS, choose_of};
+use utf8_own_page::MORE_LOOKED_AT;
 
-/// The bytes of a text that say what it is, and what characters it has.
+/// So many bytes of a text say what it is.
 pub(crate) const LOOKED_AT: usize = 65_536;
-
-/// The same of a page that has characters beyond ASCII, whose own table is made of them.
-pub(crate) const MORE_LOOKED_AT: usize = 1_048_576;
 
 /// The most bytes that go out of a table at once.
 const MOST_SET: usize = 268_435_456;
@@ -45,6 +43,20 @@ pub(crate) struct Plan {
     pub strikes: bool,
     /// Nothing is printed.
     pub checks: bool,
+}
+
+/// The bytes of a text that say what it is.
+fn first_of(page: &[u8]) -> &[u8]
+    ensures { result.now ≡ take 65536 page.now }
+{
+    &page[..LOOKED_AT.min(page.len())]
+}
+
+/// The macros of a text, by these bytes.
+pub(crate) fn kind_of(job: &Job<'_>, page: &[u8]) -> Macros
+    ensures { result ≡ kind_of (asked_of job.now) page.now }
+{
+    macros_of(job, is_manual(first_of(page)))
 }
 
 /// How pages are printed that begin with these bytes.
@@ -79,9 +91,9 @@ pub(crate) fn plan_of(
 
 /// Whether more of a page may come than was looked at.
 fn is_cut(prefix: &[u8]) -> bool
-    ensures { result ≡ ((length prefix.now == 65536) || (length prefix.now == 1048576)) }
+    ensures { result ≡ (length prefix.now == 1048576) }
 {
-    prefix.len() == LOOKED_AT || prefix.len() == MORE_LOOKED_AT
+    prefix.len() == MORE_LOOKED_AT
 }
 
 /// The table of the characters of a text, by its first bytes: none where ASCII is printed.

@@ -4,30 +4,29 @@ ghost use Rattle.nr_units.specs.Source.{Supply};
 ghost use Rattle.std.specs.Option.{option_map};
 ghost use Rattle.nr_command_options.specs.Files.{files_supply};
 ghost use Rattle.program_options.specs.Job.{asked_of};
-ghost use Rattle.program_plan.specs.Kinds.{is_manual};
-ghost use Rattle.program_plan.specs.Macros.{macros_of};
 ghost use Rattle.program_plan.specs.Texts.{macro_names};
 ghost use Rattle.program_command.specs.Own.{HasOwn, unshown_of};
-ghost use Rattle.program_command.specs.Plan.{AreOptions, IsSelected, plan_of};
+ghost use Rattle.program_command.specs.Plan.{AreOptions, IsSelected, kind_of, plan_of};
 ghost use Rattle.program_command.specs.Printing.{AreShort};
 ghost use Rattle.program_command.specs.Program.{IsOfRun, Passes};
 ghost use Rattle.program_command.specs.Running.{AreMacros, PrefixGives, IsReading, IsReported, IsWholeBut, Runs, files_of, first_of, is_for_others, text_of, under, with_named, MayLeaveOut};
 
+use crate::ahead::read_prefix;
 use crate::endings::{Ending, Place};
 use crate::own::{own_cells, print_by_plan, unshown};
-use crate::plan::{LOOKED_AT, MORE_LOOKED_AT, Plan, limits_of, options_of, plan_of};
+use crate::plan::{LOOKED_AT, Plan, kind_of, limits_of, options_of, plan_of};
 use crate::printing::Means;
 use crate::surroundings::Surroundings;
-use document_printing::{PageEnd, Prefixed, Report, hold};
+use document_printing::{PageEnd, Prefixed, Report};
 use document_sources::{Folder, Joining, LeftOut, Limits, Omissions};
 use nr_command_options::chain;
 use nr_engine::{CountedAlloc, Desk, Options, Sink, Source};
 use nr_page::Select;
 use preconv_coding::{Coding, UnderCoding};
 use program_options::Job;
-use program_plan::{asks_for_others, is_manual, macros_of, text_before};
+use program_plan::{asks_for_others, text_before};
 use std::alloc::AllocError;
-use utf8_own_page::{Cells, may_need_own};
+use utf8_own_page::{Cells, MORE_LOOKED_AT};
 
 /// The bytes of the longest line that names a text, and one more: a path of Linux has 4,095 at most.
 const LONGEST_LINE: usize = 8_192;
@@ -225,22 +224,29 @@ fn run_all<'a, T: Source + Drop, S: Source + Drop, W: Sink + Drop>(
     ensures unprinted { IfErr result.1 (λ _. result.0 ≡ output) }
 {
     let Reading { select, coding } = reading;
-    let Ok(mut room) = vec![in around.alloc; 0u8; LOOKED_AT] else {
+    let mut text = under_coding(pages, coding);
+    let mut first = Vec::new(around.alloc);
+    let Ok(()) = read_prefix(&mut text, LOOKED_AT, &mut first) else {
         return (output, Err(AllocError));
     };
-    let prefix = hold(under_coding(pages, coding), &mut room);
-    let first = prefix.first();
-    if is_for_others(job, first) {
+    if is_for_others(job, first.as_slice()) {
         return (output, Ok(Ending::NeedsOthers));
     }
-    if first.len() == LOOKED_AT && may_need_own(first) {
-        let Ok(mut more) = vec![in around.alloc; 0u8; MORE_LOOKED_AT] else {
-            return (output, Err(AllocError));
-        };
-        let prefix = hold(prefix, &mut more);
-        return run_prefix(job, select, around, macros, prefix, output);
-    }
+    let most = looked_at(first.len());
+    let Ok(()) = read_prefix(&mut text, most, &mut first) else {
+        return (output, Err(AllocError));
+    };
+    let prefix = Prefixed::over(first.as_slice(), text);
     run_prefix(job, select, around, macros, prefix, output)
+}
+
+/// How many bytes of a text are looked at of which the first 64 KiB came, or these and no more.
+fn looked_at(came: usize) -> usize {
+    if came < LOOKED_AT {
+        came
+    } else {
+        MORE_LOOKED_AT
+    }
 }
 
 /// Whether words ask not to print a text that asks for other programs, as one does that begins with these bytes.
@@ -284,17 +290,17 @@ fn make_ready<T: Source + Drop>(
 ) -> Result<Option<Ready>, AllocError>
     requires { IsSelected (asked_of job.now).pages select }
     ensures plan { IfOk result (λ made. IfSome made (λ ready. ready.plan
-        ≡ plan_of (asked_of job.now) around.now (macros_of (is_manual prefix.now) (asked_of job.now)) prefix.now)) }
+        ≡ plan_of (asked_of job.now) around.now (kind_of (asked_of job.now) prefix.now) prefix.now)) }
     ensures own { IfOk result (λ made. IfSome made (λ ready. AreShort ready.plan.stages prefix.now →
         HasOwn ready.plan prefix.now ready.own)) }
     ensures unshown { IfOk result (λ made. IfSome made (λ ready. AreShort ready.plan.stages prefix.now →
         ready.unshown.items ≡ unshown_of ready.plan prefix.now)) }
     ensures macros { IfOk result (λ made. IfSome made (λ ready. AreMacros (asked_of job.now)
-        (macros_of (is_manual prefix.now) (asked_of job.now)) (files_supply (map T.supply macros.old)) ready.before.items)) }
+        (kind_of (asked_of job.now) prefix.now) (files_supply (map T.supply macros.old)) ready.before.items)) }
     ensures options { IfOk result (λ made. IfSome made (λ ready. AreOptions (asked_of job.now) ready.plan ready.options)) }
     ensures limits { IfOk result (λ made. IfSome made (λ ready. ready.desk ≡ (asked_of job.now).limits)) }
 {
-    let kind = macros_of(job, is_manual(prefix));
+    let kind = kind_of(job, prefix);
     let mut before = text_before(job, kind, around.alloc)?;
     if !add_all(&mut chain(macros), &mut before)? {
         return Ok(None);

@@ -1,5 +1,5 @@
 //! What is wrong in texts is reported.
-ghost use Rattle.std.specs.Prelude.{◌≡◌, ◌⊎◌, IfOk, drop, false, map, take};
+ghost use Rattle.std.specs.Prelude.{◌≡◌, ◌⊎◌, IfOk, drop, false, map};
 ghost use Rattle.std.specs.Option.{option_map};
 ghost use Rattle.filters.specs.Endings.{Tells};
 ghost use Rattle.document_stages.specs.Pulling.{Stays};
@@ -16,7 +16,7 @@ ghost use Rattle.program_command.specs.Warnings.{AreAhead, AreTablesOf, TellsAt,
 use crate::ahead::{Ahead, Read, read_ahead};
 use crate::endings::Ending;
 use crate::nowhere::Nowhere;
-use crate::plan::{LOOKED_AT, limits_of};
+use crate::plan::{kind_of, limits_of};
 use crate::running::{Reading, add_all, macro_count, run_texts, under_coding};
 use crate::surroundings::Surroundings;
 use document_printing::has_tables;
@@ -29,7 +29,7 @@ use nr_engine::{Sink, Source};
 use preconv_coding::Coding;
 use preconv_converter::Target;
 use program_options::Job;
-use program_plan::{Macros, cells_of, is_manual, macros_of};
+use program_plan::{Macros, cells_of};
 use std::alloc::{AllocError, Global};
 use tbl_command::{Job as TablesJob, Tables, look_at, tell_complaints};
 
@@ -218,7 +218,7 @@ fn tell_page_of<E: Sink>(
         (heard (E.held errors.old) (E.failures errors.old)) (heard (E.held errors.new) (E.failures errors.new))
         (warnings_of (asked_of job.now) name.now page.now)) }
 {
-    let kind = macros_of(job, is_manual(first_of(page)));
+    let kind = kind_of(job, page);
     let tables = tables_of(job, kind, page, alloc)?;
     tell_macros(kind, name, page, alloc, errors)?;
     tell_man(kind, name, page, alloc, errors)?;
@@ -271,13 +271,6 @@ fn tell_tables<E: Sink>(name: &str, tables: &Option<Tables>, errors: &mut E)
         }
         None => {}
     }
-}
-
-/// The bytes that say what a text is.
-fn first_of(page: &[u8]) -> &[u8]
-    ensures { result.now ≡ take 65536 page.now }
-{
-    &page[..LOOKED_AT.min(page.len())]
 }
 
 /// What is wrong with the tables of a page of these macros, if it has tables.

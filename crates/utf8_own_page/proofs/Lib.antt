@@ -1,3 +1,4 @@
 mod Looks
 pub mod Left
 pub mod PagesCovered
+pub mod Plain

@@ -1,6 +1,6 @@
 -- Whether a page needs a table of its own, and which that is.
 use Prim.Native.Char.{code}
-use Rattle.std.specs.Prelude.{◌≡◌, ℕ, List, [], ◌∷◌, length, take, Bool, true, false, ◌==◌, ◌&&◌, ◌||◌, not, nat_le, if◌then◌else◌, is_some, Option, None, Some}
+use Rattle.std.specs.Prelude.{◌≡◌, ℕ, ◌+◌, ◌<◌, List, [], ◌∷◌, length, take, get_or, Bool, true, false, ◌==◌, ◌&&◌, ◌||◌, not, nat_le, nat_lt, if◌then◌else◌, is_some, Option, None, Some}
 use Rattle.utf8_characters.specs.declared.table.FixedTable as fixed
 use Rattle.utf8_characters.specs.declared.table.FixedTable.TheVariants.{English}
 use Rattle.utf8_characters.specs.Tables.{byte_of}
@@ -34,13 +34,24 @@ abbrev pub is_beyond_ascii : List ℕ → Bool
 is_beyond_ascii [] = false
 is_beyond_ascii (b ∷ bs) = nat_le 128 b || ((b == code "\\") && names_beyond bs) || is_beyond_ascii bs
 
--- its first 64 KiB say whether it may
-abbrev pub may_need_own : List ℕ → Bool
-may_need_own page = is_beyond_ascii (take 65536 page)
-
--- and its first MiB which characters it has
+-- what is looked at of a page: its first MiB
 abbrev pub prefix_of : List ℕ → List ℕ
 prefix_of page = take 1048576 page
+
+-- that says whether it may
+abbrev pub may_need_own : List ℕ → Bool
+may_need_own page = is_beyond_ascii (prefix_of page)
+
+-- ---- bytes that are passed over at once
+
+-- a byte of ASCII that doesn't begin a name in parentheses or brackets with the next
+abbrev pub is_plain : ℕ → ℕ → Bool
+is_plain b following =
+    nat_lt b 128 && (not (b == code "\\") || (not (following == code "(") && not (following == code "[")))
+
+-- each of the first n bytes
+abbrev pub AllPlain : ℕ → List ℕ → Type 0
+AllPlain n bytes = (k : ℕ) → k < n → is_plain (get_or bytes k 0) (get_or bytes (k + 1) 0) ≡ true
 
 -- a fixed table has characters without marks
 abbrev pub has : fixed.FixedTable → Cluster → Bool

@@ -1,16 +1,17 @@
 //! Whether a page needs a table of its own.
-ghost use Rattle.std.specs.Prelude.{◌≡◌, take};
+ghost use Rattle.std.specs.Prelude.{◌≡◌, ◌≤◌, drop, false, length, take, true};
 ghost use Rattle.utf8_own_page.specs.Needing as specs;
+ghost use Rattle.utf8_own_page.specs.Needing.{AllPlain};
 
 use preconv_converter::lacks_letter;
 use utf8_characters::FixedTable as Fixed;
 use utf8_own_characters::{Cluster, Count};
 
-/// The first bytes of a page, which say whether it may need a table of its own.
-const LOOKED_AT: usize = 65_536;
-
-/// Those of which such a table is made.
+/// The first bytes of a page, which say whether it may need a table of its own, and of which it is made.
 pub const MORE_LOOKED_AT: usize = 1_048_576;
+
+/// How many bytes are looked at together.
+const PIECE: usize = 32;
 
 /// The most bytes of a name that preconv reads.
 const LONGEST_NAME: usize = 32;
@@ -59,28 +60,88 @@ fn names_beyond(bytes: &[u8]) -> bool
     }
 }
 
-/// Whether bytes beyond ASCII are among these, a character is named by its number, or a letter that the table of a page of ASCII lacks.
-fn is_beyond_ascii(page: &[u8]) -> bool
-    ensures { result ≡ specs.is_beyond_ascii page.now }
+/// Whether a byte is of ASCII, and begins with the next no name in parentheses or brackets.
+fn is_plain(byte: u8, following: u8) -> bool
+    ensures { result ≡ specs.is_plain byte following }
 {
-    for place in 0..page.len() {
-        let byte = page[place];
-        if byte >= 128 || (byte == b'\\' && names_beyond(&page[place + 1..])) {
+    (byte < 128) & ((byte != b'\\') | ((following != b'(') & (following != b'[')))
+}
+
+/// Whether so it is of each of these but the last.
+#[inline]
+fn are_plain(bytes: &[u8; 33]) -> bool
+    ensures { result ≡ true → AllPlain 32 bytes.now }
+{
+    let mut all = true;
+    for place in 0..PIECE {
+        all &= is_plain(bytes[place], bytes[place + 1]);
+    }
+    all
+}
+
+/// Whether so it is of the first 32 of these, if one stands after them.
+fn is_piece_plain(bytes: &[u8]) -> bool
+    ensures { result ≡ true → AllPlain 32 bytes.now }
+{
+    match bytes.first_chunk::<33>() {
+        Some(piece) => are_plain(piece),
+        None => false,
+    }
+}
+
+/// Whether one of the first of these, so many, is beyond ASCII or begins the name of a character that is.
+fn is_beyond_among(bytes: &[u8], count: usize) -> bool
+    requires { count ≤ length bytes.now }
+    ensures beyond { result ≡ true → specs.is_beyond_ascii bytes.now ≡ true }
+    ensures none { result ≡ false → specs.is_beyond_ascii (drop count bytes.now) ≡ specs.is_beyond_ascii bytes.now }
+{
+    for place in 0..count {
+        let byte = bytes[place];
+        if byte >= 128 || (byte == b'\\' && names_beyond(&bytes[place + 1..])) {
             return true;
         }
     }
     false
 }
 
-/// Whether no fixed table may have all that a page prints, by its first 64 KiB: there are characters beyond ASCII, one is named by its
+/// Whether none of these is, of which there are 32 at most: nearly always that is seen of all at once.
+fn passes(bytes: &[u8], count: usize) -> bool
+    requires within { count ≤ length bytes.now }
+    requires few { count ≤ 32 }
+    ensures none { result ≡ true → specs.is_beyond_ascii (drop count bytes.now) ≡ specs.is_beyond_ascii bytes.now }
+    ensures beyond { result ≡ false → specs.is_beyond_ascii bytes.now ≡ true }
+{
+    if is_piece_plain(bytes) {
+        return true;
+    }
+    !is_beyond_among(bytes, count)
+}
+
+/// Whether bytes beyond ASCII are among these, a character is named by its number, or a letter that the table of a page of ASCII lacks.
+fn is_beyond_ascii(page: &[u8]) -> bool
+    ensures { result ≡ specs.is_beyond_ascii page.now }
+{
+    let mut place = 0;
+    while place < page.len() {
+        let rest = &page[place..];
+        let count = rest.len().min(PIECE);
+        if !passes(rest, count) {
+            return true;
+        }
+        place += count;
+    }
+    false
+}
+
+/// Whether no fixed table may have all that a page prints, by its first MiB: there are characters beyond ASCII, one is named by its
 /// number, or a letter that the table of English lacks by its name.
 pub fn may_need_own(page: &[u8]) -> bool
     ensures { result ≡ specs.may_need_own page.now }
 {
-    is_beyond_ascii(first_of(page, LOOKED_AT))
+    is_beyond_ascii(prefix_of(page))
 }
 
-/// What is looked at of a page that may need a table of its own: its first MiB.
+/// What is looked at of a page: its first MiB.
 pub fn prefix_of(page: &[u8]) -> &[u8]
     ensures { result.now ≡ specs.prefix_of page.now }
 {

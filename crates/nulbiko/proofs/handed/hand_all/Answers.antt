@@ -1,8 +1,8 @@
 use Rattle.std.proofs.Common.{length, take, drop, ◌-◌, arith}
 use Rattle.std.proofs.lemmas.Grind.{common_steps}
 use Rattle.document_stages.specs.Joined.{joined}
-use Rattle.nulbiko.proofs.Handing.{rest-more}
-use Rattle.document_printing.proofs.Prefixes.{more-came, taken-more}
+use Rattle.nulbiko.proofs.Handing.{rest-more, taken-more}
+use Rattle.document_printing.proofs.Prefixes.{more-came}
 use Rattle.nulbiko.proofs.handed.hand_all.Goals as goal
 
 pub loop-at-preserved : goal.loop-at-preserved

@@ -1,0 +1,7 @@
+-- Those that came are of ASCII, and no names of others.
+use Rattle.std.proofs.Common.{◌≡◌, drop}
+use Rattle.utf8_own_page.specs.Needing.{is_beyond_ascii}
+use Rattle.utf8_own_page.proofs.needing.is_beyond_among.Given as goal
+
+abbrev pub invariant-loop-place : goal.invariant-loop-place
+invariant-loop-place l = is_beyond_ascii (drop l.place l.bytes) ≡ is_beyond_ascii l.bytes
