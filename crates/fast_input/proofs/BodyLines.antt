@@ -1,7 +1,7 @@
 -- Lines of a definition, part by part, as moves of the machine that reads and what they cost.
 use Prim.Native.Char.{code}
 use Rattle.std.specs.Prelude.{map, drop, take, slice_index}
-use Rattle.std.proofs.Common.{◌≡◌, ◌≢◌, ℕ, zero, suc, ◌+◌, ◌-◌, ◌*◌, ◌<◌, ◌≤◌, ◌==◌, Bool, true, false, List, [], ◌∷◌, length, Some, Ok, inl, inr, All, refl, ap, sym, ◌∙◌, subst, length-drop, arith}
+use Rattle.std.proofs.Common.{◌≡◌, ◌≢◌, ℕ, zero, suc, ◌+◌, ◌-◌, ◌*◌, ◌<◌, ◌≤◌, ◌==◌, Bool, true, false, List, [], ◌∷◌, ◌++◌, length, Some, Ok, inl, inr, All, refl, ap, sym, ◌∙◌, subst, length-drop, arith}
 use Rattle.std.proofs.lemmas.Bool.{cases_Bool, cases_lt, cond-false, le-ltb, eqb-true}
 use Rattle.std.proofs.lemmas.List.{get_or-drop, get_or-take, length-map, length-take, take_all}
 use Rattle.nr_store.specs.Store.{Stored, charge_of}
@@ -16,7 +16,7 @@ use Rattle.nr_reading.specs.Many.InArgument.{IsPlain}
 use Rattle.nr_input.specs.declared.reader.Reader.{Reader}
 use Rattle.fast_input.specs.declared.target.Target.TheVariants.{Text}
 use Rattle.nr_input.specs.Acting.{act, next}
-use Rattle.fast_input.specs.BodyLines.{is_in_body, IsLine, IsOwn}
+use Rattle.fast_input.specs.BodyLines.{is_in_body, IsLine, IsOwn, IsPart}
 use Rattle.fast_input.specs.MacroLines.{ReadsOn}
 use Rattle.nr_input.specs.Refusal.{called, acted, acted_by, storing_by, storing_answer}
 use Rattle.fast_input.specs.Target.{with_more}
@@ -24,7 +24,7 @@ use Rattle.fast_input.proofs.BodyBytes.{line_mode, in_body-is, in_line, own_take
 use Rattle.fast_input.proofs.MacroBytes.{half_in, is_half_in}
 use Rattle.fast_input.proofs.MacroLines.{reads_then, reads_still, reads_none, reads_taken_in, reads_pending}
 use Rattle.fast_input.proofs.PuttingRead.{plain_at}
-use Rattle.fast_input.proofs.Targets.{diversions-with_more, with_more-none, with_more-next, charge_of-some, charge_of-le, longer-bound}
+use Rattle.fast_input.proofs.Targets.{diversions-with_more, with_more-none, with_more-more, with_more-next, charge_of-some, charge_of-le, longer-bound}
 
 -- whether a line begins after so many bytes
 abbrev begins_after : List ℕ → Bool → ℕ → Bool
@@ -268,6 +268,28 @@ pub all_fit : {K : Type 0} (bs : List ℕ) (v w : Stored K) → charge_of v + le
 all_fit {K = K} bs v w room added =
     let bound = charge_of-bound bs v in
     subst (λ (u : Stored K). charge_of u ≤ u.limit) (sym added) (omega (arith, bound, room))
+
+-- a part lies within its bytes
+pub part_within : (n k : ℕ) (bs : List ℕ) (h : Half) → IsPart n k bs h → n + k ≤ length bs
+part_within n zero bs h part = let within = part.own.text.within in omega (arith, within)
+part_within n (suc k) bs h part = let within = part.within (omega arith) in let few = part.few in omega (arith, within, few)
+
+-- after parts whose bytes are still to be added another part is read
+pub part_copied : {K : Type 0} (r s : Reader) (v : Stored K) (bs near xs ys : List ℕ) (taken count n k : ℕ) → near ≡ drop taken bs → ReadsOn (taken + count) taken bs v r (with_more Text xs v) s
+    → IsPart n k near s.half → charge_of v + length ys ≤ v.limit → ys ≡ xs ++ take (n + k) near
+    → ReadsOn (taken + (n + k + k) + (count + (n + k))) (taken + (n + k + k)) bs v r (with_more Text ys v) (reader_after s (slice_index near (n + k - 1)))
+part_copied {K = K} r s v bs near xs ys taken count n k rest so_far part room is =
+    let u = with_more Text xs v in
+    let w = with_more Text ys v in
+    let more = take (n + k) near in
+    let added : w ≡ with_more Text more u = ap (λ zs. with_more Text zs v) is ∙ sym (with_more-more xs more v) in
+    let fits : charge_of w ≤ w.limit = all_fit ys v w room refl in
+    let moves : taken + count + (2 * (n + k) + k) ≡ taken + (n + k + k) + (count + (n + k)) = omega arith in
+    let end = reader_after s (slice_index near (n + k - 1)) in
+    subst (λ j. ReadsOn j (taken + (n + k + k)) bs v r w end) moves
+    (reads_then (taken + count) (2 * (n + k) + k) taken (n + k + k) bs v u w r s end so_far
+    (subst (λ zs. ReadsOn (2 * (n + k) + k) (n + k + k) zs u s w end) rest
+    (part_reads s near u w n part.body part.own k part.few part.some (λ escaped. (part.within escaped, (part.first escaped, part.second escaped))) added fits)))
 
 -- ---- the first bytes of a line
 

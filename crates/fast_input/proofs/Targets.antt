@@ -84,6 +84,12 @@ with_more-append Text bs b v =
     ap (λ (built : List Built). let w : Stored _ = record v { building = built } in w)
     (longer_longer (map elements.Byte bs) (elements.Byte b ∷ []) v.building ∙ ap (λ xs. on_newest (longer xs) v.building) (sym (map-append elements.Byte bs (b ∷ []))))
 
+-- bytes after others
+pub with_more-more : {K : Type 0} (xs ys : List ℕ) (v : Stored K) → with_more Text ys (with_more Text xs v) ≡ with_more Text (xs ++ ys) v
+with_more-more xs ys v =
+    ap (λ (built : List Built). let w : Stored _ = record v { building = built } in w)
+    (longer_longer (map elements.Byte xs) (map elements.Byte ys) v.building ∙ ap (λ zs. on_newest (longer zs) v.building) (sym (map-append elements.Byte xs ys)))
+
 -- one byte more
 pub with_more-next : {K : Type 0} (t : Target) (k : ℕ) (bs : List ℕ) (v : Stored K) → k < length bs → with_more t (slice_index bs k ∷ []) (with_more t (take k bs) v) ≡ with_more t (take (suc k) bs) v
 with_more-next t k bs v less = with_more-append t (take k bs) (slice_index bs k) v ∙ ap (λ xs. with_more t xs v) (sym (take-suc bs k 0 less))

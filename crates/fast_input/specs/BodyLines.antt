@@ -1,6 +1,6 @@
 -- Lines of a definition, read at once of the bytes that come next of the source (CSTR 54, 7.1).
 use Prim.Native.Char.{code}
-use Rattle.std.specs.Prelude.{◌≡◌, ◌≢◌, ℕ, suc, ◌<◌, ◌≤◌, ◌==◌, ◌&&◌, Bool, false, List, length, take, slice_index}
+use Rattle.std.specs.Prelude.{◌≡◌, ◌≢◌, ℕ, suc, ◌+◌, ◌<◌, ◌≤◌, ◌==◌, ◌&&◌, Bool, true, false, List, length, take, slice_index}
 use Rattle.nr_reading.specs.declared.half.Half.{Half}
 use Rattle.nr_reading.specs.declared.mode.Mode.{Mode}
 use Rattle.nr_reading.specs.declared.mode.Mode.TheVariants as modes
@@ -34,3 +34,13 @@ pub record IsOwn (n : ℕ) (bs : List ℕ) (m : Mode) (d : Defining) : Type 0 wh
   pub text : IsLine n bs
   pub begins : m ≡ modes.BodyStart 0 → 0 < length (take n bs) → slice_index (take n bs) 0 ≡ code "."
       → IsOther (take n bs) d
+
+-- The part of a line that these bytes begin with: n of them stand for themselves, and k `\` are after these, each written twice.
+pub record IsPart (n k : ℕ) (bs : List ℕ) (h : Half) : Type 0 where
+  pub body : is_in_body h ≡ true
+  pub own : IsOwn n bs h.reading.mode h.notes.defining
+  pub few : k ≤ 1
+  pub some : 0 < n + k
+  pub within : 0 < k → n + 1 < length bs
+  pub first : 0 < k → slice_index bs n ≡ code "\\"
+  pub second : 0 < k → slice_index bs (n + 1) ≡ code "\\"

@@ -1,12 +1,12 @@
 //! The lines of a definition that the source has at hand: many moves at once.
-ghost use Rattle.std.specs.Prelude.{◌≡◌, ◌+◌, ◌*◌, ◌<◌, ◌≤◌, All, length, take, slice_index, true, false};
+ghost use Rattle.std.specs.Prelude.{◌≡◌, ◌+◌, ◌*◌, ◌<◌, ◌≤◌, ◌++◌, All, IfSome, length, take, slice_index, true, false};
 ghost use Rattle.nr_units.specs.Character.{code};
 ghost use Rattle.nr_store.specs.Store.{charge_of};
 ghost use Rattle.nr_reading.specs.declared.mode.Mode.TheVariants as modes;
 ghost use Rattle.nr_reading.specs.Definitions.{in_body};
 ghost use Rattle.nr_reading.specs.Many.InArgument.{IsPlain};
 ghost use Rattle.fast_input.specs.declared.target.Target.TheVariants.{Text};
-ghost use Rattle.fast_input.specs.BodyLines.{is_in_body, IsLine, IsOther, IsOwn};
+ghost use Rattle.fast_input.specs.BodyLines.{is_in_body, IsLine, IsOther, IsOwn, IsPart};
 ghost use Rattle.nr_input.specs.Place.{Coming, HoldsComing, has_failed};
 ghost use Rattle.nr_input.specs.Limits.{limits_of};
 ghost use Rattle.fast_input.specs.MacroLines.{ReadsOn};
@@ -27,6 +27,9 @@ const MOST_PARTS: u32 = 4_096;
 /// The most bytes that are read in one call.
 const LONGEST: usize = 16_000;
 
+/// The most bytes that are added to the text at once.
+const CHUNK: usize = 256;
+
 /// Moves that tell nothing.
 #[derive(Clone, Copy)]
 struct Passed {
@@ -34,6 +37,24 @@ struct Passed {
     taken: usize,
     /// How many they were.
     moves: usize,
+}
+
+/// The part of a line that some bytes begin with.
+#[derive(Clone, Copy)]
+struct Part {
+    /// How many bytes stand for themselves.
+    own: usize,
+    /// How many `\` are after them, each written twice: one at most.
+    more: usize,
+}
+
+/// What was read, and is still to be added.
+#[derive(Clone, Copy)]
+struct Copied {
+    /// How many bytes were taken.
+    taken: usize,
+    /// How many are to be added.
+    count: usize,
 }
 
 // Whether the next item is read in a line of a definition that is kept, or at its beginning, after no part of an escape.
@@ -161,33 +182,115 @@ fn in_body(byte: u8) -> Mode
     Mode::Body
 }
 
-// The bytes that stand for themselves are read and added, up to the end of their line, and else the `\\` after them.
+// The part of a line that these bytes begin with, if one is read next.
+#[inline(always)]
+fn next_part(half: &Half, bytes: &[u8]) -> Option<Part>
+    ensures { IfSome result (λ part. IsPart part.own part.more bytes.now half.now) }
+{
+    if !is_in_body(half) {
+        return None;
+    }
+    let own = own_bytes(half, bytes);
+    let more = backslashes_at(bytes, own);
+    if own + more == 0 {
+        return None;
+    }
+    Some(Part { own, more })
+}
+
+// A part is read and added.
 #[inline(always)]
 fn read_part<K: Copy>(reader: &mut Reader, store: &mut Store<K>, bytes: &[u8]) -> Passed
     ensures reads { ReadsOn result.moves result.taken bytes.now store.old reader.old store.new reader.new }
     ensures few { result.moves ≤ 2 * result.taken }
 {
     let nothing = Passed { taken: 0, moves: 0 };
-    if !is_in_body(&reader.half) {
+    let Some(part) = next_part(&reader.half, bytes) else {
         return nothing;
-    }
-    let own = own_bytes(&reader.half, bytes);
-    let more = backslashes_at(bytes, own);
-    let added = own + more;
-    if added == 0 {
-        return nothing;
-    }
+    };
+    let added = part.own + part.more;
     if !add_all(store, &bytes[..added]) {
         return nothing;
     }
     reader.half.reading.mode = in_body(bytes[added - 1]);
     Passed {
-        taken: added + more,
-        moves: 2 * added + more,
+        taken: added + part.more,
+        moves: 2 * added + part.more,
     }
 }
 
-// The lines that these bytes begin with are read, part by part.
+// Puts bytes into the chunk after its first `len`.
+#[inline(always)]
+fn put_after(chunk: &mut [u8], len: usize, bytes: &[u8])
+    requires { len + length bytes.now ≤ length chunk.old }
+    ensures bytes { take (len + length bytes.now) chunk.new ≡ take len chunk.old ++ bytes.now }
+    ensures size { length chunk.new ≡ length chunk.old }
+    ensures within { len + length bytes.now ≤ length chunk.new }
+{
+    chunk[len..len + bytes.len()].copy_from_slice(bytes);
+}
+
+// Parts are read as far as the chunk holds what they add, and that is put into it.
+#[inline(always)]
+fn copy_parts<K: Copy>(
+    reader: &mut Reader,
+    store: &Store<K>,
+    bytes: &[u8],
+    chunk: &mut [u8],
+) -> Copied
+    requires short { length bytes.now ≤ 16000 }
+    requires size { length chunk.old ≡ 256 }
+    requires room { charge_of store.now + 256 ≤ store.now.limit }
+    ensures reads { ReadsOn (result.taken + result.count) result.taken bytes.now store.now reader.old
+        (with_more Text (take result.count chunk.new) store.now) reader.new }
+    ensures size { length chunk.new ≡ 256 }
+    ensures within { result.count ≤ 256 }
+    ensures few { result.count ≤ result.taken }
+    ensures none { result.count ≡ 0 → reader.new ≡ reader.old }
+{
+    let mut taken = 0;
+    let mut count = 0;
+    for _ in 0..MOST_PARTS {
+        let next = &bytes[taken..];
+        let Some(part) = next_part(&reader.half, next) else {
+            return Copied { taken, count };
+        };
+        let added = part.own + part.more;
+        if added > CHUNK - count {
+            return Copied { taken, count };
+        }
+        put_after(chunk, count, &next[..added]);
+        reader.half.reading.mode = in_body(next[added - 1]);
+        taken += added + part.more;
+        count += added;
+    }
+    Copied { taken, count }
+}
+
+// The parts that these bytes begin with are read, as many as a chunk holds, and what they add is added at once. One is read where there
+// is no room for a chunk, or the chunk doesn't hold the first.
+#[inline(always)]
+fn read_chunk<K: Copy>(reader: &mut Reader, store: &mut Store<K>, bytes: &[u8]) -> Passed
+    requires short { length bytes.now ≤ 16000 }
+    ensures reads { ReadsOn result.moves result.taken bytes.now store.old reader.old store.new reader.new }
+    ensures few { result.moves ≤ 2 * result.taken }
+{
+    if !store.admits(CHUNK) {
+        return read_part(reader, store, bytes);
+    }
+    let mut chunk = [0; CHUNK];
+    let copied = copy_parts(reader, store, bytes, &mut chunk);
+    if copied.count == 0 {
+        return read_part(reader, store, bytes);
+    }
+    store.add_bytes(&chunk[..copied.count]);
+    Passed {
+        taken: copied.taken,
+        moves: copied.taken + copied.count,
+    }
+}
+
+// The lines that these bytes begin with are read, chunk by chunk.
 #[inline(always)]
 fn read_parts<K: Copy>(reader: &mut Reader, store: &mut Store<K>, bytes: &[u8]) -> Passed
     requires short { length bytes.now ≤ 16000 }
@@ -197,7 +300,7 @@ fn read_parts<K: Copy>(reader: &mut Reader, store: &mut Store<K>, bytes: &[u8]) 
     let mut taken = 0;
     let mut moves = 0;
     for _ in 0..MOST_PARTS {
-        let part = read_part(reader, store, &bytes[taken..]);
+        let part = read_chunk(reader, store, &bytes[taken..]);
         taken += part.taken;
         moves += part.moves;
         if part.moves == 0 {

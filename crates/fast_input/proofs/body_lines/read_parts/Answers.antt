@@ -10,7 +10,7 @@ loop-init g c = record {
 
 pub loop-preserved : goal.loop-preserved
 loop-preserved g c =
-    let more = c.read_part-part in
+    let more = c.read_chunk-part in
     let bs = c.args.bytes.now in
     let so_far = c.loop.invariant.reads in
     record {
@@ -21,7 +21,7 @@ loop-preserved g c =
 
 pub returns-then-part-eq0-clause-reads : goal.returns-then-part-eq0-clause-reads
 returns-then-part-eq0-clause-reads g c =
-    let more = c.read_part-part in
+    let more = c.read_chunk-part in
     let bs = c.args.bytes.now in
     let so_far = c.loop.invariant.reads in
     reads_then c.loop.moves more.result.moves c.loop.taken more.result.taken bs c.args.store.now c.loop.store more.new.store c.args.reader.now c.loop.reader more.new.reader so_far
