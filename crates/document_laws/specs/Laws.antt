@@ -1,6 +1,7 @@
 -- Laws of a whole document, whatever the page is.
 use Prim.Native.Char.{code}
-use Rattle.std.specs.Prelude.{◌≡◌, ◌≤◌, ℕ, ◌+◌, ◌*◌, ◌&&◌, ◌||◌, ◌==◌, nat_le, List, [], Bool, true, false, Option, Some}
+use Rattle.std.specs.Prelude.{◌≡◌, ◌≤◌, ℕ, ◌+◌, ◌*◌, ◌&&◌, ◌||◌, ◌==◌, nat_le, List, [], Bool, true, false}
+use Rattle.std.specs.Prelude.{Option, Some}
 use Rattle.std.specs.List.{All}
 use Rattle.nr_units.specs.Source.{Supply}
 use Rattle.nr_options.specs.Limits as limits
@@ -24,8 +25,8 @@ is_ended Done = true
 is_ended (Limit which at) = true
 is_ended outcome = false
 
--- A page is shown over an output that is empty at first, and ends so after so many moves: all is shown or a limit stops it, and
--- this has gone out.
+-- A page is shown over an output that is empty at first, and ends so after so many moves: all is shown or a
+-- limit stops it, and this has gone out.
 pub record Reaches (s : Setting) (spelling : Spelling) (source : Supply) (n : ℕ) (outcome : PageEnd) (out : List ℕ) : Type 0 where
   pub ended : is_ended outcome ≡ true
   pub shows : Shows s spelling source n outcome (Some []) (Some out)
@@ -84,7 +85,8 @@ has_room true b text =
     is_known (whole text) 0 (nat_le (most_of b + 1) b.room) && has_all (most_of b) (first_in b) text
 has_room false b text = true
 
--- A page that comes whole, and whose tables have room, is read to its end, unless a limit stops it or the output fails.
+-- A page that comes whole, and whose tables have room, is read to its end, unless a limit stops it or the
+-- output fails.
 abbrev pub RoomIsEnough : Type 0
 RoomIsEnough =
     (s : Setting) (spelling : Spelling) (page : List ℕ) (n : ℕ) (outcome : PageEnd) (held new : Option (List ℕ))

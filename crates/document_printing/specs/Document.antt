@@ -62,7 +62,8 @@ pages_of s source n = text (state_of s source n).pages
 
 -- ---- what goes out
 
--- The machine makes so many moves, as many as are allowed and as the bytes that it took allow at most, and ends so.
+-- The machine makes so many moves, as many as are allowed and as the bytes that it took allow at most, and
+-- ends so.
 pub record Ran (s : Setting) (source : Supply) (n : ℕ) (ended : machine.Outcome) : Type 0 where
   pub runs : Runs n (start s.limits s.options source)
   pub allowed : n ≤ s.limits.moves
@@ -84,8 +85,8 @@ pub record IsBrokenOff (s : Setting) (source : Supply) (n : ℕ) (held new : Opt
   pub ran : Ran s source n machines.WriteFault
   pub prefix : AppendsPrefix held new (pages_of s source (suc n))
 
--- HOW A DOCUMENT ENDS. Where the page breaks off, or tables have no room, that is where the machine wants the next byte of a
--- source that fails there.
+-- HOW A DOCUMENT ENDS. Where the page breaks off, or tables have no room, that is where the machine wants the
+-- next byte of a source that fails there.
 abbrev pub Prints : Setting → Supply → ℕ → PageEnd → Option (List ℕ) → Option (List ℕ) → Type 0
 Prints s source n outcomes.Done held new = GoesOut s source n machines.Done held new
 Prints s source n (outcomes.Limit which at) held new = GoesOut s source n (machines.Limit which at) held new

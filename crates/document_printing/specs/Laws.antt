@@ -23,8 +23,8 @@ pub record IsPrefixOfText (escapes : Bool) (bytes : List ℕ) : Type 0 where
   pub rest : List ℕ
   pub text : IsText escapes (bytes ++ rest)
 
--- What reached an empty terminal is a text for one: UTF-8 without control characters but newline, and with backspaces or
--- escape sequences only as they were asked for.
+-- What reached an empty terminal is a text for one: UTF-8 without control characters but newline, and with
+-- backspaces or escape sequences only as they were asked for.
 abbrev pub ReachesTerminal : Type 0
 ReachesTerminal = (s : Setting) (table : FixedTable) (escapes : Bool) (source : Supply) (n : ℕ) (outcome : PageEnd) (bytes : List ℕ)
     → is_whole outcome ≡ true → Shows s (Utf8 (Fixed table) escapes) source n outcome (Some []) (Some bytes) → IsText escapes bytes

@@ -1,6 +1,7 @@
 -- A text, and those that lines of it name.
 use Prim.Native.Char.{code}
-use Rattle.std.specs.Prelude.{◌≡◌, ℕ, suc, zero, ◌-◌, List, [], ◌∷◌, ◌++◌, length, drop, nat_le, Bool, true, false, not, ◌==◌, Option, None, Some, ⊤, if◌then◌else◌}
+use Rattle.std.specs.Prelude.{◌≡◌, ℕ, suc, zero, ◌-◌, List, [], ◌∷◌, ◌++◌, length, drop, nat_le, Bool, true}
+use Rattle.std.specs.Prelude.{false, not, ◌==◌, Option, None, Some, ⊤, if◌then◌else◌}
 use Rattle.nr_units.specs.Source.{Anytime, Supply}
 use Rattle.document_sources.specs.Names.{so_name}
 use Rattle.document_sources.specs.declared.following.Phase.{Phase}
@@ -38,8 +39,8 @@ abbrev pub or_after : Option (List ℕ) → List ℕ → List ℕ
 or_after None after = after
 or_after (Some text) after = text
 
--- A line ends: it goes out, or what comes of the text that it names stands in its place. `after` is what comes of the
--- rest where that is only passed by.
+-- A line ends: it goes out, or what comes of the text that it names stands in its place. `after` is what
+-- comes of the rest where that is only passed by.
 abbrev pub ended : (List ℕ → Option (List ℕ)) → Option (List ℕ) → List ℕ → List ℕ → List ℕ
 ended follow None line after = line ++ after
 ended follow (Some name) line after = or_after (follow name) after
@@ -48,8 +49,8 @@ ended follow (Some name) line after = or_after (follow name) after
 abbrev pub is_line_byte : ℕ → Bool
 is_line_byte byte = not (byte == code "\n")
 
--- The lines of a text, of the first of which this was read. `follow` is what comes of a name and of the text after its
--- line. A line of `room` bytes or more names nothing.
+-- The lines of a text, of the first of which this was read. `follow` is what comes of a name and of the text
+-- after its line. A line of `room` bytes or more names nothing.
 abbrev pub lines : ℕ → (List ℕ → List ℕ → Option (List ℕ)) → Bool → List ℕ → List ℕ → List ℕ
 lines room follow begins line [] = ended (λ name. follow name []) (named begins line) line []
 lines room follow begins line (byte ∷ bytes) =
@@ -58,9 +59,9 @@ lines room follow begins line (byte ∷ bytes) =
     else (if length (line ++ byte ∷ []) == room then (line ++ byte ∷ []) ++ lines room follow false [] bytes
     else lines room follow begins (line ++ byte ∷ []) bytes)
 
--- A TEXT AND THOSE THAT IT NAMES: so many lines more are followed, and of their texts so many bytes more are read. A text
--- stands in the place of the line that names it, and its own lines are followed too. Where there is none, or it is too long,
--- the line is left out; so it is where no more are followed.
+-- A TEXT AND THOSE THAT IT NAMES: so many lines more are followed, and of their texts so many bytes more are
+-- read. A text stands in the place of the line that names it, and its own lines are followed too. Where there
+-- is none, or it is too long, the line is left out; so it is where no more are followed.
 abbrev pub joined : ℕ → Texts → ℕ → ℕ → Bool → List ℕ → List ℕ → List ℕ
 joined room texts zero left = lines room (λ name rest. None)
 joined room texts (suc files) left = lines room (λ name rest.
@@ -84,7 +85,8 @@ to_come texts room s Gives line rest = drop s.at line ++ joined room texts s.fil
 abbrev pub uncertain : List ℕ → Supply
 uncertain bytes = record { bytes = bytes; faults = Anytime }
 
--- these bytes, and then those of a source. A call may always fail: the source may, and there may be no memory.
+-- these bytes, and then those of a source. A call may always fail: the source may, and there may be no
+-- memory.
 abbrev pub coming : List ℕ → Option Supply → Option Supply
 coming ahead None = None
 coming ahead (Some q) = Some (uncertain (ahead ++ q.bytes))
@@ -99,7 +101,8 @@ joined_supply (Some texts) (Some q) room s line = Some (uncertain (to_come texts
 abbrev pub text_begun : ℕ → ℕ → Standing
 text_begun files left = record { phase = Reads; at = 0; begins = true; files = files; left = left }
 
--- THE TEXT OF A SOURCE, and of those that lines of it name: so many lines are followed, and of their texts so many bytes are read
+-- THE TEXT OF A SOURCE, and of those that lines of it name: so many lines are followed, and of their texts so
+-- many bytes are read
 abbrev pub followed : Option Texts → Option Supply → ℕ → ℕ → ℕ → Option Supply
 followed known source room files left = joined_supply known (coming [] source) room (text_begun files left) []
 
@@ -119,7 +122,8 @@ going_out s = record s { phase = Gives; at = 0; begins = true }
 abbrev pub line_begun : Bool → Standing → Standing
 line_begun begins s = record s { phase = Reads; at = 0; begins = begins }
 
--- A name was followed: these bytes come first now. Whatever comes after them, it comes to what the definition says.
+-- A name was followed: these bytes come first now. Whatever comes after them, it comes to what the definition
+-- says.
 abbrev pub Follows : Option Texts → List ℕ → Standing → Standing → List ℕ → List ℕ → Type 0
 Follows None name s t old new = ⊤
 Follows (Some texts) name s t old new = (room : ℕ) → (rest : List ℕ)

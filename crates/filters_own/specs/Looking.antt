@@ -1,5 +1,6 @@
 -- A text is looked at: its first bytes are read under its coding, and what they print is counted.
-use Rattle.std.specs.Prelude.{◌≡◌, ℕ, ◌<◌, List, [], length, Bool, true, Option, None, Some, Result, Ok, Err, ⊤}
+use Rattle.std.specs.Prelude.{◌≡◌, ℕ, ◌<◌, List, [], length, Bool, true, Option, None, Some, Result, Ok, Err}
+use Rattle.std.specs.Prelude.{⊤}
 use Rattle.preconv_coding.specs.UnderCoding.{text_of}
 use Rattle.preconv_converter.specs.declared.target.Target.TheVariants.{Utf8}
 use Rattle.document_reader.specs.Page.{IsShort, man_of, plain_of}

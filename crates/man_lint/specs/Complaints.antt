@@ -6,7 +6,8 @@ use Rattle.man_lint.specs.Reporting.{AllReported}
 use Rattle.man_lint.specs.Watching.{all_heard, finished, first_page}
 use Rattle.man_lint.specs.declared.reporting.Complaint.{Complaint}
 use Rattle.man_lint.specs.declared.reporting.Kind.{Kind}
-use Rattle.man_lint.specs.declared.reporting.Kind.TheVariants.{NoMacro, NoString, NoEscape, NotOpen, TooMany, NotEnded, NoTitle, LateTitle}
+use Rattle.man_lint.specs.declared.reporting.Kind.TheVariants.{NoMacro, NoString, NoEscape, NotOpen, TooMany}
+use Rattle.man_lint.specs.declared.reporting.Kind.TheVariants.{NotEnded, NoTitle, LateTitle}
 
 -- what is wrong
 abbrev pub kind_text : Kind → List ℕ
@@ -27,6 +28,7 @@ said_of c = kind_text c.kind ++ (printable c.name ++ codes "\n")
 abbrev pub lines_of : List ℕ → List ℕ → AllReported → List ℕ
 lines_of program name r = lines.lines_of (λ (c : Complaint). c.line) said_of program name r
 
--- WHAT IS WRONG WITH A PAGE: 512 names of its own are kept, 64 blocks that are open at once, and 64 complaints.
+-- WHAT IS WRONG WITH A PAGE: 512 names of its own are kept, 64 blocks that are open at once, and 64
+-- complaints.
 abbrev pub faults_of : List ℕ → AllReported
 faults_of page = (finished (all_heard page (first_page 512 64 64))).reports

@@ -1,9 +1,11 @@
 -- The names that are known: of requests, of the macros of man(7), and of its strings.
-use Rattle.std.specs.Prelude.{ℕ, List, [], ◌∷◌, ◌++◌, length, Bool, true, false, ◌==◌, ◌||◌, nat_lt, if◌then◌else◌, codes, Option, None, Some}
+use Rattle.std.specs.Prelude.{ℕ, List, [], ◌∷◌, ◌++◌, length, Bool, true, false, ◌==◌, ◌||◌, nat_lt}
+use Rattle.std.specs.Prelude.{if◌then◌else◌, codes, Option, None, Some}
 use Rattle.std.specs.Str.{bytes_eq}
 use Prim.Native.Char.{code}
 use Rattle.nr_units.specs.Name.{is_full}
-use Rattle.man_lint.specs.declared.names.TheConstants.{DEFINING, ESCAPES, LEAVING, MACROS, NAMING, REQUESTS, STRINGS}
+use Rattle.man_lint.specs.declared.names.TheConstants.{DEFINING, ESCAPES, LEAVING, MACROS, NAMING, REQUESTS}
+use Rattle.man_lint.specs.declared.names.TheConstants.{STRINGS}
 
 -- a name keeps the first 32 bytes
 abbrev pub grown : List ℕ → ℕ → List ℕ
@@ -30,7 +32,8 @@ is_macro name = is_listed MACROS name
 unfoldable pub is_string : List ℕ → Bool
 is_string name = (length name == 0) || is_listed STRINGS name
 
--- what comes after it can't be looked at: it reads another text, or changes how the page is read, or the page is one of mdoc(7)
+-- what comes after it can't be looked at: it reads another text, or changes how the page is read, or the page
+-- is one of mdoc(7)
 unfoldable pub leaves : List ℕ → Bool
 leaves name = is_listed LEAVING name
 

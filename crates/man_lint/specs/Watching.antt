@@ -1,6 +1,8 @@
--- WHAT IS WRONG WITH A PAGE OF man(7): macros, requests, strings and escapes that nothing defines, ends of blocks that are not
--- open, blocks that are not ended, and a title that is missing or comes after other macros.
-use Rattle.std.specs.Prelude.{ℕ, ◌+◌, List, [], ◌∷◌, length, Bool, true, false, not, ◌==◌, ◌&&◌, ◌||◌, nat_lt, if◌then◌else◌, codes, Option, None, Some}
+-- WHAT IS WRONG WITH A PAGE OF man(7): macros, requests, strings and escapes that nothing defines, ends of
+-- blocks that are not open, blocks that are not ended, and a title that is missing or comes after other
+-- macros.
+use Rattle.std.specs.Prelude.{ℕ, ◌+◌, List, [], ◌∷◌, length, Bool, true, false, not, ◌==◌, ◌&&◌, ◌||◌, nat_lt}
+use Rattle.std.specs.Prelude.{if◌then◌else◌, codes, Option, None, Some}
 use Rattle.std.specs.List.{insert, remove}
 use Rattle.std.specs.Str.{bytes_eq}
 use Prim.Native.Char.{code}
@@ -9,7 +11,8 @@ use Rattle.filters_complaints.specs.Blocks.{place_of}
 use Rattle.man_lint.specs.Calls.{no_call}
 use Rattle.man_lint.specs.Escapes as escapes
 use Rattle.man_lint.specs.Lines as lines
-use Rattle.man_lint.specs.Names.{defines, heads, is_macro, is_request, is_string, leaves, names_first, opener_of, opens, reads_macros, region_end}
+use Rattle.man_lint.specs.Names.{defines, heads, is_macro, is_request, is_string, leaves, names_first}
+use Rattle.man_lint.specs.Names.{opener_of, opens, reads_macros, region_end}
 use Rattle.man_lint.specs.OwnNames.{AllNames, given, has, no_names}
 use Rattle.filters_complaints.specs.Complaints.{none_reported}
 use Rattle.man_lint.specs.Reporting as reporting

@@ -8,7 +8,10 @@ use Rattle.mdoc_command.specs.Watching.{all_heard, finished, first_page}
 use Rattle.mdoc_command.specs.declared.complaints.Parts.{Parts}
 use Rattle.mdoc_command.specs.declared.telling.Complaint.{Complaint}
 use Rattle.mdoc_command.specs.declared.telling.Kind.{Kind}
-use Rattle.mdoc_command.specs.declared.telling.Kind.TheVariants.{Unknown, NotOpen, TooMany, Nested, Broken, NotEnded, Outside, NoKind, BadWord, NoSection, Empty, Words, Late, OpenQuote, Again, Excess, NoName, Nameless}
+use Rattle.mdoc_command.specs.declared.telling.Kind.TheVariants.{Unknown, NotOpen, TooMany, Nested, Broken}
+use Rattle.mdoc_command.specs.declared.telling.Kind.TheVariants.{NotEnded, Outside, NoKind, BadWord}
+use Rattle.mdoc_command.specs.declared.telling.Kind.TheVariants.{NoSection, Empty, Words, Late, OpenQuote}
+use Rattle.mdoc_command.specs.declared.telling.Kind.TheVariants.{Again, Excess, NoName, Nameless}
 
 -- what is wrong, and the name of a macro
 abbrev pub about : List ℕ → List ℕ → List ℕ

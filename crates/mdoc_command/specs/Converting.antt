@@ -7,7 +7,8 @@ use Rattle.filters.specs.Arguments.{is_option}
 use Rattle.filters.specs.Program.{Job, IsBad, TurnsTexts}
 use Rattle.filters.specs.Turning.{Filter}
 use Rattle.filters.specs.declared.endings.Ending.{Ending}
-use Rattle.filters.specs.declared.endings.Ending.TheVariants.{Done, Complained, TooLong, ReadFault, WriteFault}
+use Rattle.filters.specs.declared.endings.Ending.TheVariants.{Done, Complained, TooLong, ReadFault}
+use Rattle.filters.specs.declared.endings.Ending.TheVariants.{WriteFault}
 
 -- A text is turned into man(7). Which texts are complained of is not said here.
 abbrev pub mdoc : Filter

@@ -1,7 +1,8 @@
--- The lines of a page: what they begin with, and the words of macros (mdoc(7), MACRO SYNTAX; groff(7), control lines). The
--- lines of a definition are not looked at, nor is a page that mdoc_converter lets pass: one without `.Dd` in its first sixty-four
--- lines, besides those that are empty or comments.
-use Rattle.std.specs.Prelude.{ℕ, ◌+◌, [], ◌∷◌, ◌++◌, length, Bool, true, false, not, ◌==◌, ◌&&◌, ◌||◌, nat_lt, nat_le, if◌then◌else◌, codes}
+-- The lines of a page: what they begin with, and the words of macros (mdoc(7), MACRO SYNTAX; groff(7),
+-- control lines). The lines of a definition are not looked at, nor is a page that mdoc_converter lets pass:
+-- one without `.Dd` in its first sixty-four lines, besides those that are empty or comments.
+use Rattle.std.specs.Prelude.{ℕ, ◌+◌, [], ◌∷◌, ◌++◌, length, Bool, true, false, not, ◌==◌, ◌&&◌, ◌||◌, nat_lt}
+use Rattle.std.specs.Prelude.{nat_le, if◌then◌else◌, codes}
 use Rattle.std.specs.Str.{bytes_eq}
 use Prim.Native.Char.{code}
 use Rattle.mdoc_command.specs.declared.lines.Half.{Half}

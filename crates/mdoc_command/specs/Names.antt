@@ -1,5 +1,6 @@
 -- Which names begin definitions, open blocks, and end them (mdoc(7), MACRO SYNTAX).
-use Rattle.std.specs.Prelude.{ℕ, List, [], ◌∷◌, Bool, true, false, not, ◌==◌, ◌&&◌, ◌||◌, nat_le, if◌then◌else◌, codes, Option, None, Some, slice_index}
+use Rattle.std.specs.Prelude.{ℕ, List, [], ◌∷◌, Bool, true, false, not, ◌==◌, ◌&&◌, ◌||◌, nat_le}
+use Rattle.std.specs.Prelude.{if◌then◌else◌, codes, Option, None, Some, slice_index}
 use Rattle.std.specs.Str.{bytes_eq}
 use Prim.Native.Char.{code}
 use Rattle.mdoc_command.specs.declared.names.TheConstants.{UNPARSED, NEED_WORDS, TAKE_NONE}

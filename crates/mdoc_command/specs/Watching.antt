@@ -1,7 +1,8 @@
--- What is wrong with the lines of a page: macros that are none, blocks that are not ended, ends of blocks that are not open, ends
--- that come before those of blocks within, too many that are open, what stands outside of its list or comes too late, and
--- words of macros.
-use Rattle.std.specs.Prelude.{ℕ, List, [], ◌∷◌, length, take, drop, slice_get, Bool, true, false, not, ◌==◌, ◌&&◌, ◌||◌, nat_lt, if◌then◌else◌, codes, Option, None, Some, is_some}
+-- What is wrong with the lines of a page: macros that are none, blocks that are not ended, ends of blocks
+-- that are not open, ends that come before those of blocks within, too many that are open, what stands
+-- outside of its list or comes too late, and words of macros.
+use Rattle.std.specs.Prelude.{ℕ, List, [], ◌∷◌, length, take, drop, slice_get, Bool, true, false, not, ◌==◌}
+use Rattle.std.specs.Prelude.{◌&&◌, ◌||◌, nat_lt, if◌then◌else◌, codes, Option, None, Some, is_some}
 use Rattle.std.specs.List.{insert, remove}
 use Rattle.std.specs.Str.{bytes_eq}
 use Rattle.mdoc_words.specs.Macros.{macro_of}
@@ -121,7 +122,8 @@ item p = item_at (place_of (codes "Bl") p.blocks.items) p
 abbrev pub with_naming : Naming → Page → Page
 with_naming n p = record p { naming = n }
 
--- `.Nm` without a word stands for the name, which it had before, or may have had where lines are not looked at
+-- `.Nm` without a word stands for the name, which it had before, or may have had where lines are not looked
+-- at
 abbrev pub name_ended : Page → Page
 name_ended p =
     let q = if p.naming.waits && not p.naming.known && not p.half.hidden then reported (kinds.NoName (codes "Nm")) p else p in

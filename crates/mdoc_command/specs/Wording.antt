@@ -1,5 +1,6 @@
 -- The words of a macro's line, and what is wrong with them (mdoc(7), MACRO OVERVIEW).
-use Rattle.std.specs.Prelude.{ℕ, ◌+◌, List, [], length, Bool, true, false, not, ◌==◌, ◌&&◌, ◌||◌, nat_lt, if◌then◌else◌, codes, Option, None, Some, is_some}
+use Rattle.std.specs.Prelude.{ℕ, ◌+◌, List, [], length, Bool, true, false, not, ◌==◌, ◌&&◌, ◌||◌, nat_lt}
+use Rattle.std.specs.Prelude.{if◌then◌else◌, codes, Option, None, Some, is_some}
 use Rattle.std.specs.Str.{bytes_eq}
 use Rattle.mdoc_layout.specs.Laying.{library_named, standard_named, version_named}
 use Rattle.mdoc_command.specs.declared.telling.Kind.{Kind}
@@ -7,7 +8,8 @@ use Rattle.mdoc_command.specs.declared.telling.Kind.TheVariants as kinds
 use Rattle.mdoc_command.specs.declared.wording.Options.{Options}
 use Rattle.mdoc_command.specs.declared.wording.Options.TheVariants.{Next, Value, Columns, Excess}
 use Rattle.mdoc_command.specs.declared.wording.Wording.{Wording}
-use Rattle.mdoc_command.specs.Names.{has_value, is_display_kind, is_flag, is_list_kind, is_mark, needs_words, takes_none}
+use Rattle.mdoc_command.specs.Names.{has_value, is_display_kind, is_flag, is_list_kind, is_mark, needs_words}
+use Rattle.mdoc_command.specs.Names.{takes_none}
 
 -- no line of a macro
 abbrev pub no_line : Wording
@@ -32,8 +34,8 @@ with_first word w = if w.words == 0 then record w { first = word } else w
 abbrev pub wants_kind : List ℕ → Bool
 wants_kind name = bytes_eq name (codes "Bl") || bytes_eq name (codes "Bd")
 
--- Options of a list or a display come before all that asks nothing; after `-column` come widths. Of a word that asks nothing the
--- first is kept, by its bytes where it has neither quotes nor escapes.
+-- Options of a list or a display come before all that asks nothing; after `-column` come widths. Of a word
+-- that asks nothing the first is kept, by its bytes where it has neither quotes nor escapes.
 abbrev pub options_by : List ℕ → List ℕ → Options
 options_by name word =
     if has_value name word then Value else

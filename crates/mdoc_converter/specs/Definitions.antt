@@ -1,5 +1,6 @@
 -- Macros that a page defines: their names are kept, and their lines pass (groff(7), de).
-use Rattle.std.specs.Prelude.{ℕ, ◌+◌, List, [], ◌∷◌, ◌++◌, length, Bool, false, not, ◌==◌, ◌&&◌, ◌||◌, nat_lt, nat_le, if◌then◌else◌, slice_index}
+use Rattle.std.specs.Prelude.{ℕ, ◌+◌, List, [], ◌∷◌, ◌++◌, length, Bool, false, not, ◌==◌, ◌&&◌, ◌||◌, nat_lt}
+use Rattle.std.specs.Prelude.{nat_le, if◌then◌else◌, slice_index}
 use Prim.Native.Char.{code}
 use Rattle.nr_units.specs.Name.{is_full}
 use Rattle.mdoc_layout.specs.declared.acts.Act.TheVariants as acts

@@ -1,5 +1,6 @@
 -- Lines: what the macro that begins one says, and what its end says (mdoc(7), MACRO OVERVIEW).
-use Rattle.std.specs.Prelude.{◌≡◌, ℕ, ◌-◌, List, [], ◌∷◌, length, take, Bool, true, false, not, ◌==◌, ◌&&◌, ◌||◌, nat_le, if◌then◌else◌, slice_index, codes, Option, None, Some}
+use Rattle.std.specs.Prelude.{◌≡◌, ℕ, ◌-◌, List, [], ◌∷◌, length, take, Bool, true, false, not, ◌==◌, ◌&&◌}
+use Rattle.std.specs.Prelude.{◌||◌, nat_le, if◌then◌else◌, slice_index, codes, Option, None, Some}
 use Rattle.std.specs.Str.{bytes_eq}
 use Prim.Native.Char.{code}
 use Rattle.mdoc_layout.specs.declared.acts.Act.{Act}
@@ -24,7 +25,8 @@ use Rattle.mdoc_layout.specs.declared.page.Section.TheVariants as sections
 use Rattle.mdoc_layout.specs.declared.page.Split.TheVariants as splits
 use Rattle.mdoc_layout.specs.declared.page.Wanted.TheVariants as wanteds
 use Rattle.mdoc_layout.specs.declared.seen.Seen.{Seen}
-use Rattle.mdoc_layout.specs.Blocks.{block_opens, item, item_ends, list_begins, list_ends, display_begins, display_ends, outer_goes_on, line_opens, tag_ends}
+use Rattle.mdoc_layout.specs.Blocks.{block_opens, item, item_ends, list_begins, list_ends, display_begins}
+use Rattle.mdoc_layout.specs.Blocks.{display_ends, outer_goes_on, line_opens, tag_ends}
 use Rattle.mdoc_converter.specs.Definitions.{is_own}
 use Rattle.mdoc_words.specs.Macros.{macro_of}
 use Rattle.mdoc_layout.specs.Seeing.{Offered, and_taken, left, none, offered, three, two, with_stack}
@@ -340,7 +342,8 @@ closes_last p =
     let close = acts.Close (texts.Closing (slice_index p.closers n)) in
     offered (record p { closers = take n p.closers }) (if ends_joined p then two close acts.Join else left close)
 
--- what is pending comes first, then what closes enclosures, the last first, then marks, and then what ends the line
+-- what is pending comes first, then what closes enclosures, the last first, then marks, and then what ends
+-- the line
 abbrev pub ends : Page → Offered
 ends p =
     if is_pending p then leaves p else

@@ -1,5 +1,5 @@
--- Pages that are no mdoc(7): none of the first sixty-four lines that are neither empty nor comments begins with `.Dd`
--- and what ends a word.
+-- Pages that are no mdoc(7): none of the first sixty-four lines that are neither empty nor comments begins
+-- with `.Dd` and what ends a word.
 use Rattle.std.specs.Prelude.{ℕ, List, [], ◌∷◌, Bool, if◌then◌else◌, Option, None, Some, is_some}
 use Rattle.mdoc_layout.specs.declared.page.Prefix.{Prefix}
 use Rattle.mdoc_layout.specs.declared.page.Prefix.TheVariants as prefixes

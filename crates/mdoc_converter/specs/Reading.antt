@@ -1,5 +1,6 @@
 -- Bytes are read, one after another, and what comes of a whole page.
-use Rattle.std.specs.Prelude.{ℕ, zero, suc, ◌+◌, ◌-◌, List, [], ◌∷◌, ◌++◌, length, take, Bool, true, false, ◌==◌, nat_lt, if◌then◌else◌, slice_get, Option, None, Some}
+use Rattle.std.specs.Prelude.{ℕ, zero, suc, ◌+◌, ◌-◌, List, [], ◌∷◌, ◌++◌, length, take, Bool, true, false}
+use Rattle.std.specs.Prelude.{◌==◌, nat_lt, if◌then◌else◌, slice_get, Option, None, Some}
 use Prim.Native.Char.{code}
 use Rattle.mdoc_layout.specs.declared.acts.Stack.{Stack}
 use Rattle.mdoc_layout.specs.declared.acts.Stack.TheVariants.{Stay, Opens, Closes, Empties}
@@ -44,7 +45,8 @@ pub record State : Type 0 where
 abbrev pub state : Reader → List Block → State
 state r blocks = record { page = r.page; pending = r.pending; blocks = blocks }
 
--- what is half read then, what goes out, and in how many steps: in each a byte is offered to what is half read
+-- what is half read then, what goes out, and in how many steps: in each a byte is offered to what is half
+-- read
 pub record Emitted : Type 0 where
   pub state : State
   pub bytes : List ℕ
@@ -166,7 +168,8 @@ heard_in zero b s = emitted s [] 0
 heard_in (suc n) b s =
     let o = once b s in preceded o.bytes 1 (if o.takes then emitted o.state [] 0 else heard_in n b o.state)
 
--- Sixteen times are enough: at a line's end its last word may be offered five times, its enclosures are eight at most.
+-- Sixteen times are enough: at a line's end its last word may be offered five times, its enclosures are eight
+-- at most.
 unfoldable pub heard : ℕ → State → Emitted
 heard b s = heard_in 16 b s
 

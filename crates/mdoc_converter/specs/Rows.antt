@@ -1,5 +1,6 @@
 -- Lines of a table, which are for tbl: they pass, but for the names of macros (tbl(7)).
-use Rattle.std.specs.Prelude.{ℕ, List, [], ◌∷◌, ◌++◌, Bool, true, false, ◌==◌, ◌||◌, if◌then◌else◌, codes, Option, Some}
+use Rattle.std.specs.Prelude.{ℕ, List, [], ◌∷◌, ◌++◌, Bool, true, false, ◌==◌, ◌||◌, if◌then◌else◌, codes}
+use Rattle.std.specs.Prelude.{Option, Some}
 use Prim.Native.Char.{code}
 use Rattle.nr_units.specs.Name.{is_full}
 use Rattle.mdoc_layout.specs.declared.acts.Act.TheVariants as acts

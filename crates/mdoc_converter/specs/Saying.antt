@@ -7,7 +7,8 @@ use Rattle.mdoc_layout.specs.declared.macros.Font.{Font}
 use Rattle.mdoc_layout.specs.declared.macros.Font.TheVariants.{Roman, Bold}
 use Rattle.mdoc_layout.specs.declared.page.Page.{Page}
 use Rattle.mdoc_layout.specs.declared.seen.Seen.{Seen}
-use Rattle.mdoc_layout.specs.Laying.{gap, first_in, first_of, before_hyphen, is_joined, was_put, end_word, word_end}
+use Rattle.mdoc_layout.specs.Laying.{gap, first_in, first_of, before_hyphen, is_joined, was_put, end_word}
+use Rattle.mdoc_layout.specs.Laying.{word_end}
 use Rattle.mdoc_layout.specs.LayingOut.{lay_out}
 use Rattle.mdoc_converter.specs.Reading.{State, once, heard}
 use Rattle.mdoc_converter.specs.Scanning.{offer}
@@ -40,8 +41,8 @@ part_release p =
     part (codes "-" ++ (gap true (first_in Roman p.word) p ++ font_begin Roman ++ before_hyphen p.word))
     p.word (end_word Roman (was_put p)).bytes
 
--- What an act says: of text lines their bytes, of macros' lines their words and marks. All of another act stands before no word,
--- also names that are held back, and what tables have for a word.
+-- What an act says: of text lines their bytes, of macros' lines their words and marks. All of another act
+-- stands before no word, also names that are held back, and what tables have for a word.
 abbrev pub part_of : Act → Page → Part
 part_of (acts.Byte b) p = part [] (b ∷ []) []
 part_of acts.Hyphen p = part (codes "\\") (codes "-") []

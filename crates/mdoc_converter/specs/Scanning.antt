@@ -1,5 +1,7 @@
--- A byte is offered to what is half read: lines become words (mdoc(7), MACRO SYNTAX; groff(7), control lines and comments).
-use Rattle.std.specs.Prelude.{ℕ, ◌+◌, [], ◌∷◌, ◌++◌, Bool, true, false, not, ◌==◌, ◌&&◌, ◌||◌, nat_lt, if◌then◌else◌, codes, Option, None, Some, nat_le}
+-- A byte is offered to what is half read: lines become words (mdoc(7), MACRO SYNTAX; groff(7), control lines
+-- and comments).
+use Rattle.std.specs.Prelude.{ℕ, ◌+◌, [], ◌∷◌, ◌++◌, Bool, true, false, not, ◌==◌, ◌&&◌, ◌||◌, nat_lt}
+use Rattle.std.specs.Prelude.{if◌then◌else◌, codes, Option, None, Some, nat_le}
 use Prim.Native.Char.{code}
 use Rattle.nr_units.specs.Name.{is_full}
 use Rattle.mdoc_layout.specs.declared.acts.Act.TheVariants as acts
@@ -23,7 +25,8 @@ use Rattle.mdoc_words.specs.Calls.{tab}
 use Rattle.mdoc_layout.specs.Columns.{has_rows}
 use Rattle.mdoc_converter.specs.Definitions.{in_definition}
 use Rattle.mdoc_words.specs.Escaping.{escape_then}
-use Rattle.mdoc_words.specs.Keeping.{ends_word, turns, word_begins, in_word, in_quotes, closing, in_escape, in_name_of}
+use Rattle.mdoc_words.specs.Keeping.{ends_word, turns, word_begins, in_word, in_quotes, closing, in_escape}
+use Rattle.mdoc_words.specs.Keeping.{in_name_of}
 use Rattle.mdoc_layout.specs.Laying.{is_control}
 use Rattle.mdoc_converter.specs.Lines.{call_of, named_line, ends}
 use Rattle.mdoc_converter.specs.Rows.{in_table}
@@ -78,7 +81,8 @@ in_cell b p =
     if b == code " " then offered p (taken acts.Nothing) else
     text_begins b p
 
--- a line may be broken after a hyphen between letters: one after a letter is held back; one of an escape stays
+-- a line may be broken after a hyphen between letters: one after a letter is held back; one of an escape
+-- stays
 abbrev pub hyphen_in_text : Before → Page → Offered
 hyphen_in_text befores.Letter p = turns scans.Hyphen (taken acts.Nothing) p
 hyphen_in_text (befores.Within escape) p =

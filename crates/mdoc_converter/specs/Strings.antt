@@ -1,5 +1,6 @@
 -- Strings that mdoc names (mdoc(7), Predefined Strings): `\*(xx` and `\*[xx]`.
-use Rattle.std.specs.Prelude.{ℕ, List, Bool, true, false, ◌==◌, ◌&&◌, if◌then◌else◌, slice_index, Option, None, Some}
+use Rattle.std.specs.Prelude.{ℕ, List, Bool, true, false, ◌==◌, ◌&&◌, if◌then◌else◌, slice_index, Option}
+use Rattle.std.specs.Prelude.{None, Some}
 use Prim.Native.Char.{code}
 use Rattle.mdoc_layout.specs.declared.page.RowPart.{RowPart}
 use Rattle.mdoc_layout.specs.declared.page.RowPart.TheVariants as rows

@@ -1,5 +1,6 @@
 -- What is said of the words of lines and of the enclosures that a line opened, in any state of the page.
-use Rattle.std.specs.Prelude.{◌≡◌, ℕ, ◌+◌, List, [], ◌∷◌, ◌++◌, length, reverse, Bool, nat_lt, true, false, not, ◌&&◌, ◌||◌, if◌then◌else◌, codes, Option, None, Some}
+use Rattle.std.specs.Prelude.{◌≡◌, ℕ, ◌+◌, List, [], ◌∷◌, ◌++◌, length, reverse, Bool, nat_lt, true, false}
+use Rattle.std.specs.Prelude.{not, ◌&&◌, ◌||◌, if◌then◌else◌, codes, Option, None, Some}
 use Rattle.mdoc_layout.specs.declared.acts.Act.TheVariants as acts
 use Rattle.mdoc_layout.specs.declared.acts.Text.TheVariants as texts
 use Rattle.mdoc_layout.specs.declared.macros.Macro.{Macro}
@@ -15,7 +16,11 @@ use Rattle.mdoc_converter.specs.Lines.{ends_joined}
 use Rattle.mdoc_words.specs.Macros.{macro_of}
 use Rattle.mdoc_converter.specs.Reading.{State, preceded, fed, heard_in}
 use Rattle.mdoc_converter.specs.Saying.{parts_of, state_after, text_of, words_of}
-use Rattle.mdoc_converter.specs.WrittenLines.{each, names_no_string, is_text, begins_text, is_plain, heads_words, is_mute, way_of, Word, are_written, is_first, headed, way_headed, line_of, printed_as, opens_block, row_said, Line, AskingLine, are_lines, written_line, written_lines, printed_line}
+use Rattle.mdoc_converter.specs.WrittenLines.{each, names_no_string, is_text, begins_text, is_plain}
+use Rattle.mdoc_converter.specs.WrittenLines.{heads_words, is_mute, way_of, Word, are_written, is_first}
+use Rattle.mdoc_converter.specs.WrittenLines.{headed, way_headed, line_of, printed_as, opens_block, row_said}
+use Rattle.mdoc_converter.specs.WrittenLines.{Line, AskingLine, are_lines, written_line, written_lines}
+use Rattle.mdoc_converter.specs.WrittenLines.{printed_line}
 
 -- ---- words
 
@@ -35,8 +40,9 @@ TextIsSaid =
     → names_no_string (b ∷ bs) ≡ true →
     Says (reads_at scans.Start s) (b ∷ bs ++ codes "\n") (row_said (has_rows s.page.block) false (b ∷ bs))
 
--- In any state where no marks are held back, a line of a macro says those of its words that call no macro and are no options,
--- each once and in order, with words between quotes, whose blanks stay together or not. Where the words call none, it says all.
+-- In any state where no marks are held back, a line of a macro says those of its words that call no macro and
+-- are no options, each once and in order, with words between quotes, whose blanks stay together or not. Where
+-- the words call none, it says all.
 abbrev pub WordsAreSaid : Type 0
 WordsAreSaid =
     (s : State) (m : Macro) (name : List ℕ) (words : List Word) → s.page.marks ≡ [] →
@@ -54,7 +60,8 @@ HeadingsAreSaid =
     Says (reads_at scans.Start s) (line_of (codes "Sh") (first ∷ words))
     (headed first ++ printed_as false (way_headed first) wholes words)
 
--- fewer than sixty-four lists and displays are open around the innermost where one of these lines begins another
+-- fewer than sixty-four lists and displays are open around the innermost where one of these lines begins
+-- another
 abbrev pub opens_some : Option Macro → Bool
 opens_some None = false
 opens_some (Some m) = opens_block m
@@ -76,7 +83,8 @@ printed_lines [] s (l ∷ ls) =
 printed_lines (whole ∷ wholes) s (l ∷ ls) =
     printed_line whole s.page.block l ++ printed_lines wholes (state_after s (written_line l)) ls
 
--- in any state where no marks are held back, lines that follow one another say what each of them says, in order
+-- in any state where no marks are held back, lines that follow one another say what each of them says, in
+-- order
 abbrev pub LinesAreSaid : Type 0
 LinesAreSaid =
     (s : State) (lines : List Line) → s.page.marks ≡ [] → are_lines lines ≡ true
@@ -100,8 +108,8 @@ close_all (c ∷ cs) p = then_laid (close c p) (λ q. close_all cs q)
 abbrev pub with_closers : List ℕ → Page → Page
 with_closers cs p = record p { closers = cs }
 
--- in any state at the end of a line, where what is pending was said: what closes its enclosures goes out, the last of them first, and
--- then the line ends as one that opened none
+-- in any state at the end of a line, where what is pending was said: what closes its enclosures goes out, the
+-- last of them first, and then the line ends as one that opened none
 abbrev pub LastIsClosedFirst : Type 0
 LastIsClosedFirst =
     (n b : ℕ) (s : State) → s.page.scan ≡ scans.Ends → is_pending s.page ≡ false →

@@ -1,5 +1,6 @@
 -- Lines as they are written: text lines, and lines of macros with their words.
-use Rattle.std.specs.Prelude.{ℕ, List, [], ◌∷◌, ◌++◌, Bool, true, false, not, ◌==◌, ◌&&◌, ◌||◌, if◌then◌else◌, codes, Option, None, Some}
+use Rattle.std.specs.Prelude.{ℕ, List, [], ◌∷◌, ◌++◌, Bool, true, false, not, ◌==◌, ◌&&◌, ◌||◌, if◌then◌else◌}
+use Rattle.std.specs.Prelude.{codes, Option, None, Some}
 use Rattle.std.specs.Str.{bytes_eq}
 use Prim.Native.Char.{code}
 use Rattle.mdoc_layout.specs.declared.page.Escape.{Escape as Reached}
@@ -49,8 +50,8 @@ row_said row after_tab (b ∷ bs) =
 
 -- ---- how a macro takes its words
 
--- as they are, but for their hyphens; as a description or a title, whose hyphens stay; as authors, among whom are options; or as
--- the first of a heading, as it is
+-- as they are, but for their hyphens; as a description or a title, whose hyphens stay; as authors, among whom
+-- are options; or as the first of a heading, as it is
 pub data Way : Type 0 where
   Usual : Way
   Titled : Way
@@ -75,8 +76,8 @@ said_of Authors word =
     if bytes_eq word (codes "-split") then [] else if bytes_eq word (codes "-nosplit") then [] else word
 said_of way word = word
 
--- Whether a hyphen that is not the first letter of its word, after a hyphen or not, is kept as an escape, since no line is broken
--- after it. In titles it is so for one after another.
+-- Whether a hyphen that is not the first letter of its word, after a hyphen or not, is kept as an escape,
+-- since no line is broken after it. In titles it is so for one after another.
 abbrev pub holds_hyphen : Way → Bool → Bool
 holds_hyphen Titled following = following
 holds_hyphen Headed following = false
@@ -160,8 +161,9 @@ kept way whole (l ∷ ls) = kept_first whole l ++ kept_in way whole (reached_aft
 
 -- ---- macros whose words are printed as they stand
 
--- Macros that print their words otherwise, or not at all, by the table of macros: names that tables have, and the system's, which
--- stands in the title; utilities and functions, of which a sentence is made; lines that print nothing, or pass.
+-- Macros that print their words otherwise, or not at all, by the table of macros: names that tables have, and
+-- the system's, which stands in the title; utilities and functions, of which a sentence is made; lines that
+-- print nothing, or pass.
 abbrev pub prints_otherwise : Macro → Bool
 prints_otherwise macros.Att = true
 prints_otherwise macros.Standard = true
@@ -188,7 +190,8 @@ asks macros.FontBegins = true
 asks macros.Spacing = true
 asks m = false
 
--- a macro whose line has such words: any other than these, but for headings, whose first word is read otherwise
+-- a macro whose line has such words: any other than these, but for headings, whose first word is read
+-- otherwise
 abbrev pub heads_words : Macro → Bool
 heads_words m = not (prints_otherwise m) && not (asks m) && not (is_heading m)
 
@@ -303,8 +306,9 @@ asking_line name rest = codes "." ++ name ++ written false rest ++ codes "\n"
 
 -- ---- lines of a page
 
--- an empty line, a comment, by its bytes, a text line, by its first byte and the others, a heading, by its first word and the
--- others, a line of a macro, by its name and its words, or one that asks, by its name and what stands after it
+-- an empty line, a comment, by its bytes, a text line, by its first byte and the others, a heading, by its
+-- first word and the others, a line of a macro, by its name and its words, or one that asks, by its name and
+-- what stands after it
 pub data Line : Type 0 where
   EmptyLine : Line
   CommentLine : List ℕ → Line

@@ -1,5 +1,7 @@
--- Macros are called (mdoc(7), MACRO SYNTAX): what is pending from the one before, and what they say before their words.
-use Rattle.std.specs.Prelude.{◌≡◌, ℕ, ◌+◌, ◌-◌, List, [], ◌∷◌, ◌++◌, length, take, slice_index, Bool, true, false, not, ◌==◌, ◌&&◌, nat_lt, if◌then◌else◌, Option, None, Some}
+-- Macros are called (mdoc(7), MACRO SYNTAX): what is pending from the one before, and what they say before
+-- their words.
+use Rattle.std.specs.Prelude.{◌≡◌, ℕ, ◌+◌, ◌-◌, List, [], ◌∷◌, ◌++◌, length, take, slice_index, Bool, true}
+use Rattle.std.specs.Prelude.{false, not, ◌==◌, ◌&&◌, nat_lt, if◌then◌else◌, Option, None, Some}
 use Prim.Native.Char.{code}
 use Rattle.mdoc_layout.specs.declared.acts.Act.TheVariants as acts
 use Rattle.mdoc_layout.specs.declared.acts.Request.TheVariants as requests

@@ -1,5 +1,6 @@
 -- The bytes of a word are kept (mdoc(7), MACRO SYNTAX; groff(7), comments).
-use Rattle.std.specs.Prelude.{ℕ, ◌+◌, ◌-◌, List, [], ◌∷◌, ◌++◌, length, Bool, true, false, not, ◌==◌, ◌&&◌, ◌||◌, nat_lt, if◌then◌else◌, slice_index, codes, Option, None, Some}
+use Rattle.std.specs.Prelude.{ℕ, ◌+◌, ◌-◌, List, [], ◌∷◌, ◌++◌, length, Bool, true, false, not, ◌==◌, ◌&&◌}
+use Rattle.std.specs.Prelude.{◌||◌, nat_lt, if◌then◌else◌, slice_index, codes, Option, None, Some}
 use Prim.Native.Char.{code}
 use Rattle.mdoc_layout.specs.declared.acts.Act.TheVariants as acts
 use Rattle.mdoc_layout.specs.declared.page.Escape.{Escape}

@@ -1,5 +1,6 @@
 -- The table of macros (mdoc(7), MACRO OVERVIEW).
-use Rattle.std.specs.Prelude.{ℕ, List, [], ◌∷◌, Bool, true, false, not, ◌==◌, ◌&&◌, ◌||◌, if◌then◌else◌, Option, None, Some}
+use Rattle.std.specs.Prelude.{ℕ, List, [], ◌∷◌, Bool, true, false, not, ◌==◌, ◌&&◌, ◌||◌, if◌then◌else◌}
+use Rattle.std.specs.Prelude.{Option, None, Some}
 use Prim.Native.Char.{code}
 use Rattle.mdoc_layout.specs.declared.macros.Macro.{Macro}
 use Rattle.mdoc_layout.specs.declared.macros.Macro.TheVariants as macros

@@ -1,5 +1,7 @@
--- Words that are read for what they ask: dates, titles, headings (mdoc(7), Dd, Dt, Sh), and options of Bl, Bd, Bf, Sm, Ex, Rv.
-use Rattle.std.specs.Prelude.{ℕ, ◌+◌, List, [], ◌∷◌, length, Bool, true, false, not, ◌==◌, ◌||◌, if◌then◌else◌, codes, Option, None, Some}
+-- Words that are read for what they ask: dates, titles, headings (mdoc(7), Dd, Dt, Sh), and options of Bl,
+-- Bd, Bf, Sm, Ex, Rv.
+use Rattle.std.specs.Prelude.{ℕ, ◌+◌, List, [], ◌∷◌, length, Bool, true, false, not, ◌==◌, ◌||◌}
+use Rattle.std.specs.Prelude.{if◌then◌else◌, codes, Option, None, Some}
 use Rattle.std.specs.Str.{bytes_eq}
 use Prim.Native.Char.{code}
 use Rattle.mdoc_layout.specs.declared.acts.Act.TheVariants as acts

@@ -1,5 +1,6 @@
 -- What the words of a macro are read for (mdoc(7), MACRO OVERVIEW).
-use Rattle.std.specs.Prelude.{ℕ, List, [], ◌∷◌, Bool, true, false, not, ◌==◌, ◌&&◌, ◌||◌, if◌then◌else◌, codes}
+use Rattle.std.specs.Prelude.{ℕ, List, [], ◌∷◌, Bool, true, false, not, ◌==◌, ◌&&◌, ◌||◌, if◌then◌else◌}
+use Rattle.std.specs.Prelude.{codes}
 use Rattle.std.specs.Str.{bytes_eq}
 use Prim.Native.Char.{code}
 use Rattle.mdoc_layout.specs.declared.acts.Act.{Act}
@@ -21,7 +22,9 @@ use Rattle.mdoc_layout.specs.declared.page.Section.{Section}
 use Rattle.mdoc_layout.specs.declared.page.Section.TheVariants as sections
 use Rattle.mdoc_layout.specs.declared.page.Split.{Split}
 use Rattle.mdoc_layout.specs.declared.page.Split.TheVariants.{Never, Next, Always}
-use Rattle.mdoc_words.specs.Calls.{hanging, with_call, with_place, with_scan, seen_with, is_none, is_enclosure_pending, is_pending, takes_no_more, heads_line, after_name, leaves}
+use Rattle.mdoc_words.specs.Calls.{hanging, with_call, with_place, with_scan, seen_with, is_none}
+use Rattle.mdoc_words.specs.Calls.{is_enclosure_pending, is_pending, takes_no_more, heads_line, after_name}
+use Rattle.mdoc_words.specs.Calls.{leaves}
 use Rattle.mdoc_words.specs.Macros.{part_font}
 use Rattle.mdoc_layout.specs.Seeing.{Offered, offered, left, two, three}
 

@@ -1,5 +1,6 @@
 -- A word is whole (mdoc(7), MACRO SYNTAX): it is a closing mark, calls a macro, or is read for one.
-use Rattle.std.specs.Prelude.{ℕ, List, [], ◌∷◌, ◌++◌, length, Bool, true, false, not, ◌==◌, ◌&&◌, ◌||◌, if◌then◌else◌, Option, None, Some, is_some}
+use Rattle.std.specs.Prelude.{ℕ, List, [], ◌∷◌, ◌++◌, length, Bool, true, false, not, ◌==◌, ◌&&◌, ◌||◌}
+use Rattle.std.specs.Prelude.{if◌then◌else◌, Option, None, Some, is_some}
 use Prim.Native.Char.{code}
 use Rattle.mdoc_layout.specs.declared.acts.Act.TheVariants as acts
 use Rattle.mdoc_layout.specs.declared.acts.Text.TheVariants as texts
@@ -15,7 +16,8 @@ use Rattle.mdoc_layout.specs.declared.page.Page.{Page}
 use Rattle.mdoc_layout.specs.declared.page.Scan.{Scan}
 use Rattle.mdoc_layout.specs.declared.page.Scan.TheVariants as scans
 use Rattle.mdoc_layout.specs.declared.seen.Seen.{Seen}
-use Rattle.mdoc_words.specs.Calls.{called_by, with_call, with_scan, seen_with, is_none, is_enclosure_pending, is_pending, leaves, call}
+use Rattle.mdoc_words.specs.Calls.{called_by, with_call, with_scan, seen_with, is_none, is_enclosure_pending}
+use Rattle.mdoc_words.specs.Calls.{is_pending, leaves, call}
 use Rattle.mdoc_words.specs.Options.{is_heading, option, reads_options}
 use Rattle.mdoc_layout.specs.Seeing.{Offered, offered, left, two, three}
 use Rattle.mdoc_words.specs.Taking.{prefix, argument}

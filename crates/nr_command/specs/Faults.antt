@@ -4,7 +4,8 @@ use Rattle.std.specs.Io.KnownBytes.{Appends}
 use Rattle.nr_units.specs.Failures.{SinkFailures, put_counted_if}
 use Rattle.nr_units.specs.Sink.{AppendsPrefix}
 use Rattle.nr_machine.specs.declared.outcome.Measure.{Measure}
-use Rattle.nr_machine.specs.declared.outcome.Measure.TheVariants.{Stored, Depth, LineCells, PageCells, Expansions, Moves}
+use Rattle.nr_machine.specs.declared.outcome.Measure.TheVariants.{Stored, Depth, LineCells, PageCells}
+use Rattle.nr_machine.specs.declared.outcome.Measure.TheVariants.{Expansions, Moves}
 use Rattle.nr_machine.specs.declared.outcome.Outcome.{Outcome}
 use Rattle.nr_machine.specs.declared.outcome.Outcome.TheVariants.{Done, Limit, ReadFault, TooLong, WriteFault}
 
@@ -29,7 +30,8 @@ line_of (ReadFault at) = codes "nroff: read fault" ++ place_text at
 line_of TooLong = codes "nroff: input too long\n"
 line_of WriteFault = codes "nroff: write fault\n"
 
--- A line was written whole, or a prefix of it went out where a call failed. The counts are those of the failed calls before and after.
+-- A line was written whole, or a prefix of it went out where a call failed. The counts are those of the
+-- failed calls before and after.
 abbrev pub Tells : Option (List ℕ) → Option (List ℕ) → SinkFailures → SinkFailures → List ℕ → Type 0
 Tells old new before after line =
     ((after ≡ before) × Appends old new line) ⊎ ((after ≡ put_counted_if true before)

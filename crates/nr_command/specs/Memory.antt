@@ -29,8 +29,8 @@ buffers_of job = Bytes (min (texts_of job * 8192) (2 ^ 64 - 1))
 abbrev pub list_of : Job → Taking
 list_of job = Room (texts_of job)
 
--- What was asked for before a job came to this end: the buffers and the list, and the desk once all texts are open. No text is
--- opened before the buffers and the list are there.
+-- What was asked for before a job came to this end: the buffers and the list, and the desk once all texts are
+-- open. No text is opened before the buffers and the list are there.
 abbrev pub Takes : {A : Type 0} → Option (List Taking) → Option (List Taking) → Option (List Reading)
     → Option (List Reading) → Job → Result A NotRun → Type 0
 Takes taken taken' asked asked' job (Ok x) =

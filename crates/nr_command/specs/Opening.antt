@@ -24,7 +24,8 @@ Asks None new more = ⊤
 Asks (Some xs) None more = ⊥
 Asks (Some xs) (Some ys) more = ys ≡ xs ++ more
 
--- The first of these texts that can't be opened; those before it were. What was asked for grew by these and it.
+-- The first of these texts that can't be opened; those before it were. What was asked for grew by these and
+-- it.
 pub record IsFirstRefused (may_come : Reading → Opening → Type 0) (asked asked' : Option (List Reading))
     (readings : List Reading) (reading : Reading) : Type 0 where
   pub before : List Reading

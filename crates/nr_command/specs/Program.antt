@@ -1,5 +1,6 @@
 -- What a job comes to: a run over its texts, or why it is not run.
-use Rattle.std.specs.Prelude.{◌≡◌, ◌≢◌, ℕ, List, [], map, Bool, true, false, IsTrue, Option, Result, Ok, Err, ◌⊎◌}
+use Rattle.std.specs.Prelude.{◌≡◌, ◌≢◌, ℕ, List, [], map, Bool, true, false, IsTrue, Option, Result, Ok, Err}
+use Rattle.std.specs.Prelude.{◌⊎◌}
 use Rattle.nr_units.specs.Failures.{SinkFailures, counted_if}
 use Rattle.nr_units.specs.Source.{Supply}
 use Rattle.nr_machine.specs.declared.outcome.Outcome.{Outcome}
@@ -16,8 +17,8 @@ use Rattle.nr_command.specs.Running.{Ran, status_of, memory_line}
 use Rattle.nr_command.specs.declared.opening.NotRun.{NotRun}
 use Rattle.nr_command.specs.declared.opening.NotRun.TheVariants.{CannotOpen, OutOfMemory}
 
--- The text that is reported as not to be opened is the first that can't be. Where memory is wanting, no text was asked for or each
--- was.
+-- The text that is reported as not to be opened is the first that can't be. Where memory is wanting, no text
+-- was asked for or each was.
 abbrev pub IsRefused : (Reading → Opening → Type 0) → Option (List Reading) → Option (List Reading)
     → List Reading → NotRun → Type 0
 IsRefused may_come asked asked' readings (CannotOpen input) =
@@ -30,8 +31,8 @@ lacks_memory (Ok x) = false
 lacks_memory (Err (CannotOpen input)) = false
 lacks_memory (Err OutOfMemory) = true
 
--- The texts of a job were opened, each once and in order, and a run over them, one after the other, came to this outcome. The
--- texts live no longer than the run.
+-- The texts of a job were opened, each once and in order, and a run over them, one after the other, came to
+-- this outcome. The texts live no longer than the run.
 pub record RanOver {T : Type 0} (supply : T → Option Supply) (failures : T → ℕ) (may_come : Reading → Opening
     → Type 0) (asked asked' : Option (List Reading)) (job : Job) (old new : Option (List ℕ))
     (writes writes' : SinkFailures) (passed_on : Bool) (outcome : Outcome) : Type 0 where
@@ -66,7 +67,8 @@ line_of_end (Ok outcome) = line_of outcome
 line_of_end (Err (CannotOpen input)) = unopened_text (reading_of input)
 line_of_end (Err OutOfMemory) = memory_line
 
--- The program ran a job: it came to an end, for which so much memory was asked for, and the status and the line report which.
+-- The program ran a job: it came to an end, for which so much memory was asked for, and the status and the
+-- line report which.
 pub record Comes {T : Type 0} (supply : T → Option Supply) (failures : T → ℕ) (may_come : Reading → Opening
     → Type 0) (asked asked' : Option (List Reading)) (taken taken' : Option (List Taking)) (job : Job)
     (old new : Option (List ℕ)) (writes writes' : SinkFailures) (passed_on : Bool)

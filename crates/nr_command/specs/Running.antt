@@ -22,8 +22,8 @@ status_of WriteFault = 4
 abbrev pub memory_line : List ℕ
 memory_line = codes "nroff: out of memory\n"
 
--- A run came to this outcome: after so many moves formatting answered, with so much put out, and then the output was flushed, a
--- write fault or not.
+-- A run came to this outcome: after so many moves formatting answered, with so much put out, and then the
+-- output was flushed, a write fault or not.
 pub record Ran (b : Bounds) (options : Options) (supply : Option Supply) (reads reads' : ℕ)
     (old new : Option (List ℕ)) (writes writes' : SinkFailures) (passed_on : Bool) (outcome : Outcome)
     : Type 0 where

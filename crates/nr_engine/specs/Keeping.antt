@@ -8,7 +8,8 @@ use Rattle.nr_machine.specs.FirstBytes.{broken_off}
 use Rattle.nr_machine.specs.Holding.{Shape, Holds, Made, weight, worth}
 use Rattle.nr_machine.specs.Limits.{limits_of, limits_under}
 
--- under which limits it was made and what it has read with which options, how it stands, and how many moves led there
+-- under which limits it was made and what it has read with which options, how it stands, and how many moves
+-- led there
 pub record Keeping : Type 0 where
   pub limits : Bounds
   pub options : Options
@@ -21,8 +22,8 @@ pub record Reaches (s : State) (n : ℕ) (e : Shape) : Type 0 where
   pub made : Made [] s n e (Some (broken_off [])) (Some []) (Some [])
   pub unseen : is_unseen e.place.ahead ≡ true
 
--- At whatever state the engine e held before a source that breaks off after these bytes, moves were made until all were taken: of a run
--- that may make so many at most, and had made `before`.
+-- At whatever state the engine e held before a source that breaks off after these bytes, moves were made
+-- until all were taken: of a run that may make so many at most, and had made `before`.
 pub record Reads (most : ℕ) (e : Shape) (first : List ℕ) (before after : ℕ) (f : Shape) : Type 0 where
   pub made : (s : State) → Holds [] (Some (broken_off first)) s e
       → (n : ℕ) × (after ≡ before + n) × Reaches s n f

@@ -9,8 +9,8 @@ use Rattle.nr_machine.specs.declared.outcome.Measure.TheVariants.{Moves}
 use Rattle.nr_machine.specs.declared.outcome.Outcome.{Outcome}
 use Rattle.nr_machine.specs.declared.outcome.Outcome.TheVariants.{Done, Limit}
 
--- At whatever state the engine held, moves were made up to where the run ends as the outcome says: of a run that may make so many at
--- most, and had made `before`.
+-- At whatever state the engine held, moves were made up to where the run ends as the outcome says: of a run
+-- that may make so many at most, and had made `before`.
 pub record Travelled (most : ℕ) (s : State) (before after : ℕ) (a_byte : ℕ) (outcome : Outcome)
     (old new : Option (List ℕ)) : Type 0 where
   pub count : ℕ
@@ -22,7 +22,8 @@ abbrev pub Travels : ℕ → Shape → Option Supply → Option (List ℕ) → O
 Travels most e supply old new before after outcome =
     (s : State) → Holds [] supply s e → Travelled most s before after (worth e) outcome old new
 
--- How a run ends that has made all moves that it may make, by the kind of the next one and how many bytes were taken.
+-- How a run ends that has made all moves that it may make, by the kind of the next one and how many bytes
+-- were taken.
 abbrev pub outcome_when_spent : Kind → ℕ → Outcome
 outcome_when_spent Over at = Done
 outcome_when_spent k at = Limit Moves at

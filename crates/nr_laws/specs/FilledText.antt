@@ -1,6 +1,7 @@
 -- Plain text whose lines neither are empty nor begin with a blank: the rows that come of it.
 use Prim.Native.Char.{code}
-use Rattle.std.specs.Prelude.{◌≡◌, ℕ, zero, suc, ◌<◌, ◌≤◌, ◌-◌, ◌%◌, not, Bool, true, false, ◌&&◌, ◌||◌, ◌==◌, if◌then◌else◌, List, [], ◌∷◌, ◌++◌, length, replicate}
+use Rattle.std.specs.Prelude.{◌≡◌, ℕ, zero, suc, ◌<◌, ◌≤◌, ◌-◌, ◌%◌, not, Bool, true, false, ◌&&◌, ◌||◌, ◌==◌}
+use Rattle.std.specs.Prelude.{if◌then◌else◌, List, [], ◌∷◌, ◌++◌, length, replicate}
 use Rattle.std.specs.List.{flat_map, fold}
 use Rattle.nr_units.specs.Source.{Supply}
 use Rattle.nr_vectors.specs.declared.cell.Cell.{Cell}
@@ -8,7 +9,8 @@ use Rattle.nr_vectors.specs.declared.cell.Look.TheVariants.{Plain}
 use Rattle.nr_settings.specs.declared.indents.Margins.{Margins}
 use Rattle.nr_settings.specs.declared.filling.Align.{Align}
 use Rattle.nr_settings.specs.declared.filling.Align.TheVariants.{Left, Spread}
-use Rattle.nr_fill.specs.Piece.{Piece, Collected, is_nil, nothing_collected, add_cell, end_word, one_blank_more, after_newline}
+use Rattle.nr_fill.specs.Piece.{Piece, Collected, is_nil, nothing_collected, add_cell, end_word}
+use Rattle.nr_fill.specs.Piece.{one_blank_more, after_newline}
 use Rattle.nr_fill.specs.Cutting.{fits, cut}
 use Rattle.nr_fill.specs.Setting.{cut_of, set_line, afterwards}
 use Rattle.nr_page.specs.PageBytes.{cell_bytes}

@@ -107,7 +107,8 @@ OneWhole = (options : Options) (supply : Supply) (a b : List ℕ) → UnlimitedO
 
 -- ---- wider limits
 
--- Under wider limits no less goes out, unless that run is ended by a fault of the sink, or of a source that may fail at any call.
+-- Under wider limits no less goes out, unless that run is ended by a fault of the sink, or of a source that
+-- may fail at any call.
 abbrev pub WiderLimits : Type 0
 WiderLimits =
     (b b' : Bounds) (options : Options) (supply : Supply) (n n' : ℕ) (outcome outcome' : Outcome)

@@ -2,7 +2,8 @@
 use Rattle.std.specs.Prelude.{◌≡◌, ◌≢◌, ◌↔◌, ℕ, zero, suc, ◌+◌, ◌-◌, ◌*◌, ◌≤◌, length, Option, None, Some}
 use Rattle.nr_units.specs.Source.{Supply}
 use Rattle.nr_fill.specs.Piece.{Word}
-use Rattle.nr_reading.specs.Weights.{item_worth, cost_of_text, cost_of_special, weight_of_text, weight_of_argument, blanks_owed}
+use Rattle.nr_reading.specs.Weights.{item_worth, cost_of_text, cost_of_special, weight_of_text}
+use Rattle.nr_reading.specs.Weights.{weight_of_argument, blanks_owed}
 use Rattle.nr_input.specs.Laws.{most_of_reading, held_back}
 use Rattle.nr_input.specs.Weights.{items_left}
 use Rattle.nr_options.specs.Limits.{Bounds, AreLimits}
@@ -18,8 +19,8 @@ use Rattle.nr_machine.specs.declared.outcome.Measure.{Measure}
 
 -- ---- where a move is refused
 
--- In a run a move is refused at a limit exactly where the state that it would lead to is above that limit, and above no limit that is
--- asked before it: also a move that reads.
+-- In a run a move is refused at a limit exactly where the state that it would lead to is above that limit,
+-- and above no limit that is asked before it: also a move that reads.
 abbrev pub LimitsAreExact : Type 0
 LimitsAreExact =
     (b : Bounds) (options : Options) (supply : Supply) (n : ℕ) (which : Measure)
@@ -33,21 +34,21 @@ abbrev pub parts_of : Option Word → ℕ
 parts_of None = 0
 parts_of (Some w) = length w.parts
 
--- So many moves the text that is read may bring before the next byte of the source is taken, for each element and end of the
--- texts of the levels, and for each that the splices may bring that are still allowed.
+-- So many moves the text that is read may bring before the next byte of the source is taken, for each element
+-- and end of the texts of the levels, and for each that the splices may bring that are still allowed.
 abbrev pub moves_of_texts : Formatter → ℕ
 moves_of_texts f =
     item_worth * (items_left f.store.levels + (f.reader.most - f.reader.burst) * (f.store.limit + 3))
 
--- What else there may be: the newline that is added, what is half read, what an event and what is under way may set to be read,
--- a special character, the second cell of a dash, and a word; and 95 for the end of the input, a page, a trap, a stop of a tab
--- and the options.
+-- What else there may be: the newline that is added, what is half read, what an event and what is under way
+-- may set to be read, a special character, the second cell of a dash, and a word; and 95 for the end of the
+-- input, a page, a trap, a stop of a tab and the options.
 abbrev pub moves_at_most : ℕ
 moves_at_most =
     item_worth + most_of_reading + 2 * weight_of_text + cost_of_special + weight_of_dash + cost_of_word + 95
 
--- So many the rest: escapes that are half read, blanks that the line begins with, bytes of a definition's line that are held back; pieces of
--- the line, and parts of its word; texts that are being built.
+-- So many the rest: escapes that are half read, blanks that the line begins with, bytes of a definition's
+-- line that are held back; pieces of the line, and parts of its word; texts that are being built.
 abbrev pub moves_of_rest : Formatter → ℕ
 moves_of_rest f =
     weight_of_argument * length f.reader.half.asks + cost_of_text * blanks_owed f.reader.half
@@ -63,15 +64,16 @@ IsAfterByte (suc m) s = (state_after (suc m) s).coming.taken ≢ (state_after m 
 abbrev pub NoneIsTaken : ℕ → ℕ → State → Type 0
 NoneIsTaken m n s = (state_after (m + n) s).coming.taken ≡ (state_after m s).coming.taken
 
--- Each beginning of a run keeps the bound that the whole of it keeps: so many moves for each byte that was taken, and as many before the
--- first. At most 32 registers are given.
+-- Each beginning of a run keeps the bound that the whole of it keeps: so many moves for each byte that was
+-- taken, and as many before the first. At most 32 registers are given.
 abbrev pub MovesAreFew : Type 0
 MovesAreFew =
     (b : Bounds) (options : Options) (supply : Supply) (n : ℕ) → length options.registers.items ≤ 32
     → Runs n (start b options supply)
     → n ≤ moves_a_byte b * ((state_after n (start b options supply)).coming.taken + 1)
 
--- From any state of a run so many moves are made at most before a byte is taken, one for each option that has still to take effect.
+-- From any state of a run so many moves are made at most before a byte is taken, one for each option that has
+-- still to take effect.
 abbrev pub MovesBeforeByte : Type 0
 MovesBeforeByte =
     (b : Bounds) (options : Options) (supply : Supply) (m n : ℕ) → Runs (m + n) (start b options supply)
@@ -79,7 +81,8 @@ MovesBeforeByte =
     → let s = state_after m (start b options supply) in
     n ≤ length s.chosen + moves_of_texts s.formatter + moves_of_rest s.formatter
 
--- Between the takings of two bytes, before the first and after the last there are no more moves than the number for a byte.
+-- Between the takings of two bytes, before the first and after the last there are no more moves than the
+-- number for a byte.
 abbrev pub MovesBetween : Type 0
 MovesBetween =
     (b : Bounds) (options : Options) (supply : Supply) (m n : ℕ) → AreLimits b

@@ -1,5 +1,5 @@
--- Which bytes go out: no control byte but the newline, and the backspace that strikes one byte over another; and beyond ASCII none
--- that is not in the input.
+-- Which bytes go out: no control byte but the newline, and the backspace that strikes one byte over another;
+-- and beyond ASCII none that is not in the input.
 use Prim.Native.Char.{code}
 use Rattle.std.specs.Prelude.{◌≡◌, ℕ, ◌||◌, ◌&&◌, ◌==◌, nat_le, nat_lt, Bool, true, false, List}
 use Rattle.std.specs.List.{All}

@@ -1,5 +1,6 @@
 -- What a call that prints a whole page comes to.
-use Rattle.std.specs.Prelude.{◌≡◌, ℕ, ℤ, pos, List, [], ◌∷◌, length, take, Bool, true, false, ◌==◌, ◌&&◌, ◌||◌, nat_lt, if◌then◌else◌, Option, None, Some, codes}
+use Rattle.std.specs.Prelude.{◌≡◌, ℕ, ℤ, pos, List, [], ◌∷◌, length, take, Bool, true, false, ◌==◌, ◌&&◌}
+use Rattle.std.specs.Prelude.{◌||◌, nat_lt, if◌then◌else◌, Option, None, Some, codes}
 use Rattle.std.specs.List.{starts_with}
 use Prim.Native.Char.{code}
 use Rattle.tbl_table.specs.declared.signs.Signs.{Signs}

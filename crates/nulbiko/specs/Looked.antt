@@ -1,5 +1,6 @@
 -- The table of a page's own characters, for the calls of a stage, and what these come to.
-use Rattle.std.specs.Prelude.{◌≡◌, ℕ, ◌<◌, List, length, take, Bool, true, false, ◌&&◌, if◌then◌else◌, Some, ⊤}
+use Rattle.std.specs.Prelude.{◌≡◌, ℕ, ◌<◌, List, length, take, Bool, true, false, ◌&&◌, if◌then◌else◌, Some}
+use Rattle.std.specs.Prelude.{⊤}
 use Rattle.preconv_converter.specs.declared.target.Target.TheVariants.{Utf8}
 use Rattle.utf8_converter.specs.Choosing.{chosen, looked_at}
 use Rattle.utf8_own_characters.specs.declared.counting.Count.{Count}
@@ -56,8 +57,8 @@ pub record ShowingIsShort (page text : List ℕ) : Type 0 where
   pub look : LookIsShort all_stages (prefix_of page)
   pub text_is : length text < 1099511627776
 
--- WHAT THE TABLE OF A PAGE MAKES of a text stands at the beginning of the output, or as much of it as fits, and nothing else is
--- reported.
+-- WHAT THE TABLE OF A PAGE MAKES of a text stands at the beginning of the output, or as much of it as fits,
+-- and nothing else is reported.
 pub record MakesByOwn (page : List ℕ) (makes : Characters → List ℕ) (output : List ℕ) (report : Report) (code : ℕ) : Type 0 where
   pub table : Characters
   pub is : IsTableOf (counts_in page) table

@@ -1,5 +1,6 @@
 -- A page is printed with a table of its own.
-use Rattle.std.specs.Prelude.{◌≡◌, ℕ, ◌<◌, List, [], length, Bool, true, false, not, ◌==◌, ◌&&◌, Option, None, Some, ⊤}
+use Rattle.std.specs.Prelude.{◌≡◌, ℕ, ◌<◌, List, [], length, Bool, true, false, not, ◌==◌, ◌&&◌, Option, None}
+use Rattle.std.specs.Prelude.{Some, ⊤}
 use Rattle.utf8_own_characters.specs.declared.counting.Count.{Count}
 use Rattle.utf8_own_characters.specs.Ranking.{ranked}
 use Rattle.utf8_own_characters.specs.Table.{Characters}
@@ -64,8 +65,8 @@ abbrev pub IsShortIf : Bool → DocumentSetup → List ℕ → Type 0
 IsShortIf false setup text = ⊤
 IsShortIf true setup text = OwnIsShortToo setup text
 
--- a text, and what mdoc makes of it, have less than 2^40 bytes, and where a table of its own is asked for, what characters and the
--- table make of it
+-- a text, and what mdoc makes of it, have less than 2^40 bytes, and where a table of its own is asked for,
+-- what characters and the table make of it
 pub record AreShort (setup : DocumentSetup) (text : List ℕ) : Type 0 where
   pub page : IsShort text (man_of setup.options.mdoc text)
   pub own : IsShortIf (asks_for_own setup text) setup text

@@ -19,8 +19,8 @@ code_of TooLong = 6
 -- never reported
 code_of (ReadFault at) = 9
 
--- The text, read under its coding, was turned into the language, with bytes for characters of the table if there is one, and what
--- came out was handed over.
+-- The text, read under its coding, was turned into the language, with bytes for characters of the table if
+-- there is one, and what came out was handed over.
 pub record TurnsText (table : Option FixedTable) (text output : List ℕ) (report : Report) (code : ℕ) : Type 0 where
   pub outcome : RunEnd
   pub left : Option Supply

@@ -1,5 +1,6 @@
 -- What becomes of the pages of a document.
-use Rattle.std.specs.Prelude.{◌≡◌, ℕ, ◌-◌, List, [], ◌++◌, Bool, ◌==◌, if◌then◌else◌, Option, None, Some, Result, Ok, Err, ◌⊎◌}
+use Rattle.std.specs.Prelude.{◌≡◌, ℕ, ◌-◌, List, [], ◌++◌, Bool, ◌==◌, if◌then◌else◌, Option, None, Some}
+use Rattle.std.specs.Prelude.{Result, Ok, Err, ◌⊎◌}
 use Rattle.utf8_characters.specs.declared.table.FixedTable.{FixedTable}
 use Rattle.utf8_converter.specs.Cells.{converted, strays_of}
 use Rattle.utf8_converter.specs.Lines.{KeepsLines}
@@ -7,7 +8,8 @@ use Rattle.document_stages.specs.Running.{at_most}
 use Rattle.document_stages.specs.Pulling.{whole}
 use Rattle.document_printing.specs.Document.{Prints, Setting, source_of}
 use Rattle.document_printing.specs.declared.setup.PageEnd.{PageEnd}
-use Rattle.document_printing.specs.declared.setup.PageEnd.TheVariants.{Done, Limit, NoRoom, ReadFault, TooLong, WriteFault}
+use Rattle.document_printing.specs.declared.setup.PageEnd.TheVariants.{Done, Limit, NoRoom, ReadFault}
+use Rattle.document_printing.specs.declared.setup.PageEnd.TheVariants.{TooLong, WriteFault}
 use Rattle.nulbiko.specs.Formatting.{limit_number}
 use Rattle.nulbiko.specs.declared.printed.Form.{Form}
 use Rattle.nulbiko.specs.declared.printed.Form.TheVariants.{Bytes, Characters}
@@ -27,8 +29,8 @@ form_of number table = if number == 0 then Bytes else with_table number table
 
 -- ---- what goes out of pages
 
--- all of them, in their form: bytes as they are; or a text for a terminal in UTF-8, in lines of as many cells with the same
--- characters, without so many bytes that are no character of the table
+-- all of them, in their form: bytes as they are; or a text for a terminal in UTF-8, in lines of as many cells
+-- with the same characters, without so many bytes that are no character of the table
 abbrev pub Shows : Form → List ℕ → List ℕ → ℕ → Type 0
 Shows Bytes pages bytes dropped = (bytes ≡ pages) × (dropped ≡ 0)
 Shows (Characters table escapes) pages bytes dropped =
@@ -67,8 +69,8 @@ abbrev pub dropped_of : {E : Type 0} → Result ℕ E → ℕ
 dropped_of (Ok dropped) = dropped
 dropped_of (Err e) = 0
 
--- A PAGE WAS PRINTED: so many moves of the machine printed these pages of its document, and that is what went out of them. Where
--- there was room for all pages but not for the end of what they become, that is reported.
+-- A PAGE WAS PRINTED: so many moves of the machine printed these pages of its document, and that is what went
+-- out of them. Where there was room for all pages but not for the end of what they become, that is reported.
 pub record IsPrinted (s : Setting) (form : Form) (page bytes : List ℕ) (moves : ℕ) (outcome : PageEnd) (dropped : ℕ) : Type 0 where
   pub ended : PageEnd
   pub pages : List ℕ

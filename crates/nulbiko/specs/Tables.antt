@@ -1,7 +1,8 @@
 -- The tables of characters, by the numbers that programs in C give them.
 use Rattle.std.specs.Prelude.{ℕ, ◌==◌, if◌then◌else◌, Option, None, Some}
 use Rattle.utf8_characters.specs.declared.table.FixedTable.{FixedTable}
-use Rattle.utf8_characters.specs.declared.table.FixedTable.TheVariants.{English, Latin, Cyrillic, Greek, Latin1}
+use Rattle.utf8_characters.specs.declared.table.FixedTable.TheVariants.{English, Latin, Cyrillic, Greek}
+use Rattle.utf8_characters.specs.declared.table.FixedTable.TheVariants.{Latin1}
 
 -- the table of a number; 0 is that of none
 abbrev pub table_numbered : ℕ → Option FixedTable

@@ -58,7 +58,8 @@ limits = record { formats = 262144; row = 16384 }
 abbrev pub bounds : Signs → ℕ → Bounds
 bounds signs line = record { signs = signs; limits = limits; cells = line; fits = true }
 
--- The tables of the text were set for a line of so many cells, with boxes that are drawn with these, what came out was handed over, and what was wrong first is reported.
+-- The tables of the text were set for a line of so many cells, with boxes that are drawn with these, what
+-- came out was handed over, and what was wrong first is reported.
 pub record SetsTables (signs : Signs) (line : ℕ) (text output : List ℕ) (report : Report) (code : ℕ) : Type 0 where
   pub outcome : ReadEnd
   pub left : Option Supply

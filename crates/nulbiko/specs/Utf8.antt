@@ -19,7 +19,8 @@ code_of TooLong = 6
 -- never reported
 code_of (ReadFault at) = 9
 
--- The bytes became characters of the table, and what came out was handed over; how many were dropped is reported.
+-- The bytes became characters of the table, and what came out was handed over; how many were dropped is
+-- reported.
 pub record TurnsBytes (table : FixedTable) (escapes : Bool) (text output : List ℕ) (report : Report)
     (code : ℕ) : Type 0 where
   pub outcome : RunEnd

@@ -1,5 +1,6 @@
 -- What the words of the command line come to.
-use Rattle.std.specs.Prelude.{ℕ, ◌+◌, ◌<◌, ◌≤◌, List, [], ◌∷◌, Bool, true, false, not, if◌then◌else◌, Option, None, Some, Result, Ok, Err, codes}
+use Rattle.std.specs.Prelude.{ℕ, ◌+◌, ◌<◌, ◌≤◌, List, [], ◌∷◌, Bool, true, false, not, if◌then◌else◌, Option}
+use Rattle.std.specs.Prelude.{None, Some, Result, Ok, Err, codes}
 use Rattle.std.specs.Str.{bytes_eq}
 use Rattle.utf8_characters.specs.declared.table.FixedTable.TheVariants.{Latin1}
 use Rattle.filters.specs.Arguments.{is_option}
@@ -18,7 +19,8 @@ abbrev pub with_table : ℕ → Option Named → (Named → Result Job Wrong) �
 with_table place None next = Err (UnknownTable place)
 with_table place (Some table) next = next table
 
--- Options from this place on, up to the first file: `-8`, and `-u` with a table, whose name may be awaited. The last of them counts.
+-- Options from this place on, up to the first file: `-8`, and `-u` with a table, whose name may be awaited.
+-- The last of them counts.
 abbrev pub asked_from : Bool → Option Named → ℕ → List (List ℕ) → Result Job Wrong
 asked_from true table place [] = Err NoTable
 asked_from false table place [] = job table place

@@ -1,5 +1,6 @@
 -- What preconv makes of texts, and what its words ask for.
-use Rattle.std.specs.Prelude.{◌≡◌, ℕ, List, [], drop, get_or, Bool, true, false, Option, None, Some, Result, Ok, Err, codes}
+use Rattle.std.specs.Prelude.{◌≡◌, ℕ, List, [], drop, get_or, Bool, true, false, Option, None, Some, Result}
+use Rattle.std.specs.Prelude.{Ok, Err, codes}
 use Rattle.std.specs.Borrow.{Bor}
 use Rattle.std.specs.Io.KnownBytes.{Appends}
 use Rattle.nr_units.specs.Sink.{AppendsPrefix}
@@ -14,7 +15,9 @@ use Rattle.utf8_own_stage.specs.Coding.{coded_text}
 use Rattle.filters.specs.Program as programs
 use Rattle.filters.specs.Turning.{Filter, MayEnd}
 use Rattle.filters.specs.declared.endings.Ending.{Ending}
-use Rattle.filters.specs.declared.endings.Ending.TheVariants.{Done, Complained, TooLong, ReadFault, WriteFault, BadWord, CannotOpen, CannotRead, OutOfMemory}
+use Rattle.filters.specs.declared.endings.Ending.TheVariants.{Done, Complained, TooLong, ReadFault}
+use Rattle.filters.specs.declared.endings.Ending.TheVariants.{WriteFault, BadWord, CannotOpen, CannotRead}
+use Rattle.filters.specs.declared.endings.Ending.TheVariants.{OutOfMemory}
 use Rattle.filters_own.specs.declared.names.Named.{Named}
 use Rattle.filters_own.specs.declared.names.Named.TheVariants.{Fixed, Own}
 use Rattle.filters_own.specs.Looking.{AsksForOwn}
@@ -23,7 +26,8 @@ use Rattle.preconv_command.specs.declared.arguments.Job.{Job}
 use Rattle.preconv_command.specs.declared.arguments.Wrong.{Wrong}
 use Rattle.preconv_command.specs.declared.arguments.Wrong.TheVariants.{UnknownOption, UnknownTable, NoTable}
 
--- A text is read under its coding, and turned into the language of a table, or of ASCII; a newline may follow.
+-- A text is read under its coding, and turned into the language of a table, or of ASCII; a newline may
+-- follow.
 abbrev pub preconv : Target → Filter
 preconv target = record {
   text_of = coding.text_of;

@@ -10,7 +10,8 @@ use Rattle.filters.specs.declared.endings.Ending.{Ending}
 use Rattle.filters.specs.declared.endings.Ending.TheVariants.{Done, Complained}
 use Rattle.filters_own.specs.Looking.{LookIsShort, counts_in, prefix_in}
 
--- the line about a text of this name of which characters of these names are not shown; nothing where there are none
+-- the line about a text of this name of which characters of these names are not shown; nothing where there
+-- are none
 abbrev pub unshown_line : List ℕ → List ℕ → List ℕ
 unshown_line name [] = []
 unshown_line name (b ∷ bs) =

@@ -1,12 +1,16 @@
 -- What the name of a control line makes of the rest of it.
 use Prim.Native.Char.{code}
-use Rattle.std.specs.Prelude.{ℕ, ◌-◌, List, [], ◌∷◌, ◌++◌, length, take, drop, Bool, true, false, not, ◌==◌, ◌&&◌, if◌then◌else◌, Option, None, Some, is_some, codes, slice_index}
+use Rattle.std.specs.Prelude.{ℕ, ◌-◌, List, [], ◌∷◌, ◌++◌, length, take, drop, Bool, true, false, not, ◌==◌}
+use Rattle.std.specs.Prelude.{◌&&◌, if◌then◌else◌, Option, None, Some, is_some, codes, slice_index}
 use Rattle.std.specs.Str.{bytes_eq}
 use Rattle.nr_units.specs.Name.{is_full}
 use Rattle.preconv_converter.specs.declared.said.Said.{Said}
 use Rattle.preconv_converter.specs.declared.said.Said.TheVariants.{Kept}
 use Rattle.preconv_converter.specs.declared.beginnings.Opens.{Opens}
-use Rattle.preconv_converter.specs.declared.beginnings.Opens.TheVariants.{Rest, Definition, Ignored, Condition, Else, Nop, Translation, Face, Words, Paragraph, Tagged, Plain, Title}
+use Rattle.preconv_converter.specs.declared.beginnings.Opens.TheVariants.{Rest, Definition, Ignored}
+use Rattle.preconv_converter.specs.declared.beginnings.Opens.TheVariants.{Condition, Else, Nop, Translation}
+use Rattle.preconv_converter.specs.declared.beginnings.Opens.TheVariants.{Face, Words, Paragraph, Tagged}
+use Rattle.preconv_converter.specs.declared.beginnings.Opens.TheVariants.{Plain, Title}
 use Rattle.preconv_converter.specs.declared.beginnings.TheConstants.{OPENING, KNOWN}
 use Rattle.preconv_converter.specs.Glyphs.{looked_up}
 
@@ -75,8 +79,8 @@ opened name =
     then definition_alone (opened_by (take 2 name)) else
     if bytes_eq name (codes "nop") then Nop else opened_by name
 
--- How a name goes out before this byte: that of a definition without its third byte, and that of a condition with a blank
--- before an escape. `.nop` is a condition that holds.
+-- How a name goes out before this byte: that of a definition without its third byte, and that of a condition
+-- with a blank before an escape. `.nop` is a condition that holds.
 abbrev pub apart : List ℕ → ℕ → List ℕ
 apart name b = if (b == code "\\") && not (is_full name) then name ++ code " " ∷ [] else name
 

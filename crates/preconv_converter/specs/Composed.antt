@@ -1,6 +1,7 @@
 -- Letters with marks: by numbers (`u0065_0301`), or with the names of accents (`e aa`) (groff_char(7)).
 use Prim.Native.Char.{code}
-use Rattle.std.specs.Prelude.{ℕ, List, [], ◌∷◌, ◌++◌, length, Bool, false, not, ◌==◌, ◌&&◌, ◌||◌, nat_lt, if◌then◌else◌, Option, None, Some, is_some}
+use Rattle.std.specs.Prelude.{ℕ, List, [], ◌∷◌, ◌++◌, length, Bool, false, not, ◌==◌, ◌&&◌, ◌||◌, nat_lt}
+use Rattle.std.specs.Prelude.{if◌then◌else◌, Option, None, Some, is_some}
 use Rattle.unicode_normalization.specs.Compose.{primary_composite}
 use Rattle.utf8_characters.specs.declared.table.FixedTable.{FixedTable}
 use Rattle.utf8_characters.specs.Tables.{byte_of}
@@ -46,8 +47,8 @@ abbrev pub composed_by : Option ℕ → ℕ → Marked → Marked
 composed_by (Some whole) c m = record m { whole = whole }
 composed_by None c m = if is_within 768 879 c then record m { mark = c } else m
 
--- A mark composes with the letter and the marks before it (é of `e` and U+0301). The first that does not is kept, and those after it
--- are dropped.
+-- A mark composes with the letter and the marks before it (é of `e` and U+0301). The first that does not is
+-- kept, and those after it are dropped.
 abbrev pub with_mark : Option ℕ → Marked → Marked
 with_mark None m = m
 with_mark (Some c) m = if m.mark == 0 then composed_by (primary_composite (shown m.whole) (shown c)) c m else m

@@ -1,4 +1,5 @@
--- Escapes (the groff manual, Escapes; groff(7)): which go out as they are, which become others, and which are dropped.
+-- Escapes (the groff manual, Escapes; groff(7)): which go out as they are, which become others, and which are
+-- dropped.
 use Prim.Native.Char.{code}
 use Rattle.std.specs.Prelude.{ℕ, length, ◌==◌, nat_lt, if◌then◌else◌}
 use Rattle.nr_units.specs.Name.{is_full}
@@ -12,7 +13,8 @@ use Rattle.preconv_converter.specs.Hyphens.{placed, after_hyphen, after_sentence
 use Rattle.preconv_converter.specs.Endings.{ended, ends_with}
 use Rattle.preconv_converter.specs.Skipping.{skip_from, skipped, embedded}
 use Rattle.preconv_converter.specs.Letters.{newline_hidden, after_backslash}
-use Rattle.preconv_converter.specs.Spelling.{target, font_escape, pair, spelled_up_to, delimiter, bracketed, nested}
+use Rattle.preconv_converter.specs.Spelling.{target, font_escape, pair, spelled_up_to, delimiter, bracketed}
+use Rattle.preconv_converter.specs.Spelling.{nested}
 
 abbrev pub argument : ℕ → Half → Offered
 argument b h =

@@ -1,7 +1,9 @@
--- Fonts (the groff manual, Changing Fonts): a name that is no font of a terminal keeps the one that is set, and counts as a
--- change of fonts, so that the previous one is the same. So the page's font is followed, in text and in lines of `.ft`.
+-- Fonts (the groff manual, Changing Fonts): a name that is no font of a terminal keeps the one that is set,
+-- and counts as a change of fonts, so that the previous one is the same. So the page's font is followed, in
+-- text and in lines of `.ft`.
 use Prim.Native.Char.{code}
-use Rattle.std.specs.Prelude.{ℕ, List, [], length, Bool, true, false, ◌==◌, ◌&&◌, ◌||◌, if◌then◌else◌, Option, None, Some}
+use Rattle.std.specs.Prelude.{ℕ, List, [], length, Bool, true, false, ◌==◌, ◌&&◌, ◌||◌, if◌then◌else◌, Option}
+use Rattle.std.specs.Prelude.{None, Some}
 use Rattle.preconv_converter.specs.declared.said.Said.TheVariants as says
 use Rattle.preconv_converter.specs.declared.half.Half.{Half}
 use Rattle.preconv_converter.specs.declared.half.Line.{Line}

@@ -1,6 +1,8 @@
 -- The names of characters and fonts (groff_char(7)).
 use Prim.Native.Char.{code}
-use Rattle.std.specs.Prelude.{ℕ, ◌-◌, List, [], ◌∷◌, length, take, drop, Bool, false, ◌==◌, ◌&&◌, ◌||◌, nat_le, nat_lt, if◌then◌else◌, Option, None, Some, codes, slice_get, slice_index}
+use Rattle.std.specs.Prelude.{ℕ, ◌-◌, List, [], ◌∷◌, length, take, drop, Bool, false, ◌==◌, ◌&&◌, ◌||◌}
+use Rattle.std.specs.Prelude.{nat_le, nat_lt, if◌then◌else◌, Option, None, Some, codes, slice_get}
+use Rattle.std.specs.Prelude.{slice_index}
 use Rattle.preconv_converter.specs.Numbers.{number_from}
 use Rattle.std.specs.Str.{bytes_eq}
 use Rattle.preconv_converter.specs.Likeness.{before_nul}
@@ -87,7 +89,8 @@ overstruck text =
 
 -- ---- translations
 
--- the quotes that `.tr \(is'`, `.tr \(if` and a backquote, and `.tr \(pd"` make of these signs (the groff manual, Character Translations)
+-- the quotes that `.tr \(is'`, `.tr \(if` and a backquote, and `.tr \(pd"` make of these signs (the groff
+-- manual, Character Translations)
 abbrev pub quote_of : List ℕ → Option (List ℕ)
 quote_of name =
     if is_pair (code "i") (code "s") name then Some (codes "\\(aq") else
@@ -105,8 +108,8 @@ string_code name =
 
 -- ---- fonts
 
--- a font with a name of one byte, if it is one: a terminal has no others. V is that of code in pages of pandoc, which say
--- `.ftr V B` for terminals
+-- a font with a name of one byte, if it is one: a terminal has no others. V is that of code in pages of
+-- pandoc, which say `.ftr V B` for terminals
 abbrev pub letter_of : ℕ → Option ℕ
 letter_of b =
     if (b == code "R") || (b == code "1") || (b == code "5") then Some (code "R") else

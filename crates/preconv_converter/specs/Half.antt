@@ -23,7 +23,8 @@ use Rattle.preconv_converter.specs.Likeness.{is_blank}
 use Rattle.preconv_converter.specs.Translations.{no_translations}
 use Rattle.preconv_converter.specs.Words.{no_font}
 
--- what is half read then, what goes out, and whether the character is taken: one that is left is offered again
+-- what is half read then, what goes out, and whether the character is taken: one that is left is offered
+-- again
 pub record Offered : Type 0 where
   pub half : Half
   pub said : Said
@@ -81,7 +82,8 @@ is_text lines.Text = true
 is_text lines.Fonts = true
 is_text line = false
 
--- in a line of `.tr` after a character that is no byte: one that is translated so, or what a byte becomes, is left
+-- in a line of `.tr` after a character that is no byte: one that is translated so, or what a byte becomes, is
+-- left
 abbrev pub after_other : Pair → Pair
 after_other First = OtherPair
 after_other (Second b) = First

@@ -1,7 +1,8 @@
--- Hyphens of a manual page: a line may be broken after one only where it stands between two letters (groff(7), `.cflags`).
--- A text line may hang to the left of its paragraph.
+-- Hyphens of a manual page: a line may be broken after one only where it stands between two letters
+-- (groff(7), `.cflags`). A text line may hang to the left of its paragraph.
 use Prim.Native.Char.{code}
-use Rattle.std.specs.Prelude.{ℕ, List, [], ◌∷◌, Bool, true, false, not, ◌==◌, ◌&&◌, ◌||◌, nat_le, if◌then◌else◌, codes}
+use Rattle.std.specs.Prelude.{ℕ, List, [], ◌∷◌, Bool, true, false, not, ◌==◌, ◌&&◌, ◌||◌, nat_le}
+use Rattle.std.specs.Prelude.{if◌then◌else◌, codes}
 use Rattle.preconv_converter.specs.declared.said.Said.TheVariants as says
 use Rattle.preconv_converter.specs.declared.half.Half.{Half}
 use Rattle.preconv_converter.specs.declared.half.Line.{Line}
@@ -9,13 +10,15 @@ use Rattle.preconv_converter.specs.declared.half.Line.TheVariants as lines
 use Rattle.preconv_converter.specs.declared.half.Before.{Before}
 use Rattle.preconv_converter.specs.declared.half.Before.TheVariants.{Character, Argument}
 use Rattle.preconv_converter.specs.declared.half.Mark.{Mark}
-use Rattle.preconv_converter.specs.declared.half.Mark.TheVariants.{Letter, Opening, Quote, Stop, Closing, Closed, Backslash, Other}
+use Rattle.preconv_converter.specs.declared.half.Mark.TheVariants.{Letter, Opening, Quote, Stop, Closing}
+use Rattle.preconv_converter.specs.declared.half.Mark.TheVariants.{Closed, Backslash, Other}
 use Rattle.preconv_converter.specs.declared.half.TablePart.{TablePart}
 use Rattle.preconv_converter.specs.declared.half.TablePart.TheVariants as tables
 use Rattle.preconv_converter.specs.declared.half.Escape.TheVariants as escapes
 use Rattle.preconv_converter.specs.Numbers.{is_within}
 use Rattle.preconv_converter.specs.Likeness.{is_latin_letter}
-use Rattle.preconv_converter.specs.Half.{Offered, taken, left, next_line, is_whole, is_read, is_format, is_separated, table_after, character_said, without_escape, abandoned}
+use Rattle.preconv_converter.specs.Half.{Offered, taken, left, next_line, is_whole, is_read, is_format}
+use Rattle.preconv_converter.specs.Half.{is_separated, table_after, character_said, without_escape, abandoned}
 use Rattle.preconv_converter.specs.Translations.{translated}
 use Rattle.preconv_converter.specs.Words.{has_hyphens as words_have}
 
@@ -95,7 +98,8 @@ is_begun before = false
 abbrev pub begins_after : Half → Bool
 begins_after h = is_begun h.before
 
--- After an escape with a number or a text hyphens may stand in its argument: up to the end of the line they stay as they are.
+-- After an escape with a number or a text hyphens may stand in its argument: up to the end of the line they
+-- stay as they are.
 abbrev pub leaving_hyphens : Half → Half
 leaving_hyphens h = if h.manual then record h { before = Argument } else h
 
@@ -109,8 +113,8 @@ turns_hyphens h = h.manual && not (is_separated h.table)
 abbrev pub is_flowing : Half → Bool
 is_flowing h = h.manual && not (is_read h.table)
 
--- After a letter what comes decides, but in a tag or an address; else it goes out as `\-`, after which no line is broken. One
--- that copying a macro's word makes `\-` stays.
+-- After a letter what comes decides, but in a tag or an address; else it goes out as `\-`, after which no
+-- line is broken. One that copying a macro's word makes `\-` stays.
 abbrev pub hyphen_by : Before → Half → Offered
 hyphen_by (Character Letter) h =
     if is_whole h.tag then taken (says.Escape (code "-")) (record h { before = Character Other })
@@ -164,8 +168,9 @@ is_moved b h = (b == carriage_return) || (h.translating && not (translated b h.t
 abbrev pub moved : ℕ → Half → Offered
 moved b h = if b == carriage_return then taken says.Nothing h else showing (translated b h.translations) lines.Text h
 
--- The language ends a sentence with `.`, `?` or `!` alone, groff also with what closes after it. So the newline waits for what
--- comes: after it a word of the sentence that begins stands two blanks apart where lines are filled (tmac.an, `.1`).
+-- The language ends a sentence with `.`, `?` or `!` alone, groff also with what closes after it. So the
+-- newline waits for what comes: after it a word of the sentence that begins stands two blanks apart where
+-- lines are filled (tmac.an, `.1`).
 abbrev pub is_closed : Before → Bool
 is_closed (Character Closed) = true
 is_closed before = false

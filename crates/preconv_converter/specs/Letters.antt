@@ -84,15 +84,15 @@ copied_mark line = Other
 abbrev pub backslash : Half → Offered
 backslash h = ended (says.Kept (with_byte (code "\\") h.kept)) (placed (copied_mark h.line) (keeping (code "\\") h))
 
--- A text line that begins with `\.` is a control line (groff reads it so), but in a definition it may be one within, and in a
--- table it is a row.
+-- A text line that begins with `\.` is a control line (groff reads it so), but in a definition it may be one
+-- within, and in a table it is a row.
 abbrev pub dot : Half → Offered
 dot h =
     if h.defining || is_read h.table || not (is_start h.line) then ends_with (code ".") h
     else control false (code ".") (without_escape h)
 
--- By the byte after the backslash. `\:` is a place to cut a word; `\%` is none after an opening bracket or a quote, where it only keeps a
--- word whole.
+-- By the byte after the backslash. `\:` is a place to cut a word; `\%` is none after an opening bracket or a
+-- quote, where it only keeps a word whole.
 abbrev pub letter : ℕ → Half → Offered
 letter b h =
     if b == code "(" then going_on b (escapes.Pair kinds.Glyph) h else
@@ -143,7 +143,8 @@ is_text_line lines.Text = true
 is_text_line lines.Fonts = true
 is_text_line line = false
 
--- In a definition, and in the text of a string, an escape may have several backslashes. In a text line a note hides its newline.
+-- In a definition, and in the text of a string, an escape may have several backslashes. In a text line a note
+-- hides its newline.
 abbrev pub after_backslash : ℕ → Half → Offered
 after_backslash b h =
     if b == code "\n" then newline_hidden h else

@@ -1,6 +1,7 @@
 -- What a character looks like on a terminal of single bytes (groff_char(7)).
 use Prim.Native.Char.{code}
-use Rattle.std.specs.Prelude.{ℕ, ◌+◌, ◌-◌, ◌/◌, ◌%◌, List, [], ◌∷◌, ◌++◌, Bool, ◌==◌, ◌||◌, nat_le, nat_lt, if◌then◌else◌, Option, None, Some, codes, slice_get}
+use Rattle.std.specs.Prelude.{ℕ, ◌+◌, ◌-◌, ◌/◌, ◌%◌, List, [], ◌∷◌, ◌++◌, Bool, ◌==◌, ◌||◌, nat_le, nat_lt}
+use Rattle.std.specs.Prelude.{if◌then◌else◌, Option, None, Some, codes, slice_get}
 use Rattle.preconv_converter.specs.declared.composed.Marked.{Marked}
 use Rattle.preconv_converter.specs.declared.target.Target.{Target}
 use Rattle.preconv_converter.specs.Numbers.{is_within}
@@ -9,8 +10,8 @@ use Rattle.preconv_converter.specs.declared.signs.TheConstants.{LATIN, LATIN_ADD
 
 -- ---- ASCII
 
--- An ASCII character that stood as an escape, so that it is read as itself; `=` and `_` alone would be rules of a table.
--- Control characters show nothing.
+-- An ASCII character that stood as an escape, so that it is read as itself; `=` and `_` alone would be rules
+-- of a table. Control characters show nothing.
 abbrev pub ascii_like : ℕ → List ℕ
 ascii_like b =
     if b == code " " then codes "\\ " else
@@ -133,8 +134,8 @@ likeness target c =
     if is_utf8 target then itself c else
     byte_or (byte_in_force target c) (beyond_like c)
 
--- A letter with marks: in UTF-8 what they compose to, and a mark that composes with nothing. A table has what they compose to, or it is
--- the letter, as in ASCII.
+-- A letter with marks: in UTF-8 what they compose to, and a mark that composes with nothing. A table has what
+-- they compose to, or it is the letter, as in ASCII.
 abbrev pub mark_itself : ℕ → List ℕ
 mark_itself c = if c == 0 then [] else itself c
 

@@ -1,6 +1,7 @@
 -- Lines: control lines and their names, text lines, lines that pass as they are.
 use Prim.Native.Char.{code}
-use Rattle.std.specs.Prelude.{ℕ, List, [], ◌∷◌, ◌++◌, length, Bool, true, false, not, ◌==◌, ◌&&◌, ◌||◌, nat_le, if◌then◌else◌, codes}
+use Rattle.std.specs.Prelude.{ℕ, List, [], ◌∷◌, ◌++◌, length, Bool, true, false, not, ◌==◌, ◌&&◌, ◌||◌}
+use Rattle.std.specs.Prelude.{nat_le, if◌then◌else◌, codes}
 use Rattle.nr_units.specs.Name.{is_full}
 use Rattle.preconv_converter.specs.declared.said.Said.{Said}
 use Rattle.preconv_converter.specs.declared.said.Said.TheVariants.{Nothing, Byte, Escape, Kept}
@@ -25,13 +26,16 @@ use Rattle.preconv_converter.specs.declared.words.Emitted.{Emitted}
 use Rattle.preconv_converter.specs.declared.words.Fonts.TheVariants.{Tag as TagFonts}
 use Rattle.preconv_converter.specs.declared.words.Class.{Class}
 use Rattle.preconv_converter.specs.declared.words.Class.TheVariants.{Other}
-use Rattle.preconv_converter.specs.Half.{Offered, taken, left, is_in_last, is_read, with_format, character_said, with_text}
+use Rattle.preconv_converter.specs.Half.{Offered, taken, left, is_in_last, is_read, with_format}
+use Rattle.preconv_converter.specs.Half.{character_said, with_text}
 use Rattle.preconv_converter.specs.Translations.{translated, with_pair}
 use Rattle.preconv_converter.specs.Beginnings.{opened, said_name, is_roman}
 use Rattle.preconv_converter.specs.Faces.{in_face, face_ended}
-use Rattle.preconv_converter.specs.Hyphens.{wide_mark, placed, gone_by, showing, carriage_return, is_moved, saying, in_text, hyphen, turns_hyphens, is_flowing}
+use Rattle.preconv_converter.specs.Hyphens.{wide_mark, placed, gone_by, showing, carriage_return, is_moved}
+use Rattle.preconv_converter.specs.Hyphens.{saying, in_text, hyphen, turns_hyphens, is_flowing}
 use Rattle.preconv_converter.specs.Conditions.{is_gap, before_condition, in_number, in_strings, in_asked}
-use Rattle.preconv_converter.specs.Words.{first_words, no_font, begins_word, is_ninth, offered_words, class_of}
+use Rattle.preconv_converter.specs.Words.{first_words, no_font, begins_word, is_ninth, offered_words}
+use Rattle.preconv_converter.specs.Words.{class_of}
 
 -- a blank, a control byte or a backslash ends a name
 abbrev pub ends_name : ℕ → Bool
@@ -49,8 +53,8 @@ control conditional b h = saying b lines.Control (record h { name = []; conditio
 abbrev pub follows_tag : Half → Bool
 follows_tag h = is_flowing h && is_in_last h.tag
 
--- Text stands beside the tag that waits for it, where an empty line, or one that begins with a blank, would only end a
--- word. The request breaks.
+-- Text stands beside the tag that waits for it, where an empty line, or one that begins with a blank, would
+-- only end a word. The request breaks.
 abbrev pub begins_apart : ℕ → Bool
 begins_apart b = (b == code "\n") || (b == code " ")
 
@@ -63,7 +67,8 @@ at_start b h =
     if follows_tag h && begins_apart b then breaking b h else
     if b == code "\n" then saying b lines.Start h else in_text b h
 
--- Blanks before the first word of a filled line are dropped. After fonts they are printed, as are those between words.
+-- Blanks before the first word of a filled line are dropped. After fonts they are printed, as are those
+-- between words.
 abbrev pub after_fonts : ℕ → Half → Offered
 after_fonts b h =
     if (b == code " ") && not (is_read h.table) then left (Escape (code "&")) (record h { line = lines.Text })
@@ -84,7 +89,8 @@ naming name line h = taken Nothing (record h { name = name; line = line })
 abbrev pub blanks_said : Line → Half → Offered
 blanks_said line h = left (Kept h.name) (record h { name = []; line = line })
 
--- Blanks after the control character are kept. In a definition they are dropped before a second one, which ends it.
+-- Blanks after the control character are kept. In a definition they are dropped before a second one, which
+-- ends it.
 abbrev pub after_control : ℕ → Half → Offered
 after_control b h =
     if (b == code ".") && h.defining then naming (code "." ∷ []) lines.Name h else
@@ -92,7 +98,8 @@ after_control b h =
     if not (length h.name == 0) then blanks_said lines.Control h else
     if ends_name b then blanks_said lines.Request h else naming (b ∷ []) lines.Name h
 
--- Lines are ignored up to one that begins with two dots. After a condition that isn't known, nor where a name ends them.
+-- Lines are ignored up to one that begins with two dots. After a condition that isn't known, nor where a name
+-- ends them.
 abbrev pub line_of : Opens → Bool → Line
 line_of opens.Rest ignores = lines.Request
 line_of opens.Definition ignores = lines.Request

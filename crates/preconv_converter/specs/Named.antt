@@ -1,6 +1,7 @@
 -- What the name in an escape stands for (groff(7); groff_char(7)).
 use Prim.Native.Char.{code}
-use Rattle.std.specs.Prelude.{ℕ, List, length, Bool, true, false, not, ◌==◌, ◌&&◌, if◌then◌else◌, Option, None, Some}
+use Rattle.std.specs.Prelude.{ℕ, List, length, Bool, true, false, not, ◌==◌, ◌&&◌, if◌then◌else◌, Option}
+use Rattle.std.specs.Prelude.{None, Some}
 use Rattle.preconv_converter.specs.declared.said.Said.TheVariants as says
 use Rattle.preconv_converter.specs.declared.half.Half.{Half}
 use Rattle.preconv_converter.specs.declared.half.Line.{Line}
@@ -13,7 +14,8 @@ use Rattle.preconv_converter.specs.declared.half.Kind.{Kind}
 use Rattle.preconv_converter.specs.declared.half.Kind.TheVariants as kinds
 use Rattle.preconv_converter.specs.Half.{Offered, taken, character_said, marked_said, without_escape}
 use Rattle.preconv_converter.specs.Hyphens.{wide_mark, placed, is_hang}
-use Rattle.preconv_converter.specs.Glyphs.{is_pair, is_native, is_struck, glyph_code, code_of, overstruck, quote_of, string_code}
+use Rattle.preconv_converter.specs.Glyphs.{is_pair, is_native, is_struck, glyph_code, code_of, overstruck}
+use Rattle.preconv_converter.specs.Glyphs.{quote_of, string_code}
 use Rattle.preconv_converter.specs.Composed.{has_marks, marked_by}
 use Rattle.preconv_converter.specs.Faces.{font_named}
 use Rattle.preconv_converter.specs.Numbers.{is_number}

@@ -1,6 +1,7 @@
 -- Numbers in the names of characters.
 use Prim.Native.Char.{code}
-use Rattle.std.specs.Prelude.{ℕ, ◌+◌, ◌-◌, ◌*◌, List, [], ◌∷◌, Bool, false, ◌==◌, ◌&&◌, ◌||◌, nat_le, nat_lt, if◌then◌else◌, Option, None, Some}
+use Rattle.std.specs.Prelude.{ℕ, ◌+◌, ◌-◌, ◌*◌, List, [], ◌∷◌, Bool, false, ◌==◌, ◌&&◌, ◌||◌, nat_le, nat_lt}
+use Rattle.std.specs.Prelude.{if◌then◌else◌, Option, None, Some}
 
 abbrev pub is_within : ℕ → ℕ → ℕ → Bool
 is_within first last b = nat_le first b && nat_le b last
@@ -26,8 +27,8 @@ digit base b =
     if is_within (code "A") (code "F") b then digit_below base (b - code "A" + 10) else
     if is_within (code "a") (code "f") b then digit_below base (b - code "a" + 10) else None
 
--- The number that digits go on with, up to a `_`, after which marks stand, or the end. One more digit is too many where
--- the number is no character's code.
+-- The number that digits go on with, up to a `_`, after which marks stand, or the end. One more digit is too
+-- many where the number is no character's code.
 abbrev pub number_from : ℕ → ℕ → List ℕ → Option ℕ
 number_from base n [] = Some n
 number_from base n (b ∷ bs) =

@@ -14,7 +14,8 @@ use Rattle.preconv_converter.specs.Hyphens.{gone_by, turns_hyphens, carriage_ret
 use Rattle.preconv_converter.specs.Words.{is_as_is as word_as_is, taken_as_is as word_taken}
 use Rattle.preconv_converter.specs.Spelling.{font_left}
 use Rattle.preconv_converter.specs.Escapes.{in_escape}
-use Rattle.preconv_converter.specs.Lines.{is_control, follows_tag, begins_apart, in_line, wide_in_line, takes_escape}
+use Rattle.preconv_converter.specs.Lines.{is_control, follows_tag, begins_apart, in_line, wide_in_line}
+use Rattle.preconv_converter.specs.Lines.{takes_escape}
 
 abbrev pub beginning : Half → Offered
 beginning h = taken Nothing (record h { escape = escapes.Begun; kept = code "\\" ∷ []; spelled = [] })

@@ -8,11 +8,12 @@ use Rattle.preconv_converter.specs.Saying.{all_sent}
 use Rattle.preconv_converter.specs.Glyphs.{letter_of}
 use Rattle.preconv_converter.specs.Faces.{font_or}
 
--- A byte as it came; a character, by itself or by its name, as what it looks like; a font, as one of a terminal; a hyphen, after
--- which no line is broken; the end of a line whose sentence brackets or quotes close; below a tag an empty line, and a blank
--- that begins a line. In a font macro's line, a quote before the ninth word and after the last, a quote around one of these
--- words that is left out, and a blank between them where the font changes. What stands before a blank that is printed where a
--- line or its first word begins with it, and where that word is empty or begins with a quote.
+-- A byte as it came; a character, by itself or by its name, as what it looks like; a font, as one of a
+-- terminal; a hyphen, after which no line is broken; the end of a line whose sentence brackets or quotes
+-- close; below a tag an empty line, and a blank that begins a line. In a font macro's line, a quote before
+-- the ninth word and after the last, a quote around one of these words that is left out, and a blank between
+-- them where the font changes. What stands before a blank that is printed where a line or its first word
+-- begins with it, and where that word is empty or begins with a quote.
 pub data Piece : Type 0 where
   Same : ℕ → Piece
   Looks : ℕ → Piece

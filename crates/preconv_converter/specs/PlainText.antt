@@ -4,7 +4,8 @@ use Rattle.std.specs.Prelude.{ℕ, List, [], ◌∷◌, Bool, true, not, ◌==�
 use Rattle.preconv_converter.specs.Lines.{is_control}
 use Rattle.preconv_converter.specs.Offering.{may_pass}
 
--- a byte of ASCII that is neither DEL, a carriage return nor a backslash, and at the beginning of a line no control character
+-- a byte of ASCII that is neither DEL, a carriage return nor a backslash, and at the beginning of a line no
+-- control character
 abbrev pub goes_on : Bool → ℕ → Bool
 goes_on starts b = may_pass b && not (b == code "\\") && not (starts && is_control b)
 

@@ -1,5 +1,6 @@
 -- Bytes become characters (RFC 3629; ISO 8859-1), and these are heard.
-use Rattle.std.specs.Prelude.{◌≡◌, ℕ, zero, suc, ◌+◌, ◌*◌, ◌%◌, List, [], ◌∷◌, ◌++◌, take, Bool, ◌&&◌, ◌==◌, nat_lt, if◌then◌else◌}
+use Rattle.std.specs.Prelude.{◌≡◌, ℕ, zero, suc, ◌+◌, ◌*◌, ◌%◌, List, [], ◌∷◌, ◌++◌, take, Bool, ◌&&◌, ◌==◌}
+use Rattle.std.specs.Prelude.{nat_lt, if◌then◌else◌}
 use Rattle.preconv_converter.specs.declared.target.Target.{Target}
 use Rattle.preconv_converter.specs.declared.half.Half.{Half}
 use Rattle.preconv_converter.specs.declared.half.Coming.{Coming}
@@ -15,7 +16,8 @@ use Rattle.preconv_converter.specs.Half.{first_half}
 use Rattle.preconv_converter.specs.Lines.{passing}
 use Rattle.preconv_converter.specs.Offering.{offer, is_raw}
 
--- What is half read then, what goes out, and in how many steps: a character is offered to what is half read, or a byte passes as it is.
+-- What is half read then, what goes out, and in how many steps: a character is offered to what is half read,
+-- or a byte passes as it is.
 pub record Emitted : Type 0 where
   pub reader : Reader
   pub bytes : List ℕ

@@ -1,6 +1,7 @@
 -- Runs of bytes that only go on a line.
 use Prim.Native.Char.{code}
-use Rattle.std.specs.Prelude.{ℕ, suc, List, [], ◌∷◌, get_or, Bool, true, false, not, ◌==◌, ◌&&◌, ◌||◌, nat_lt, if◌then◌else◌, min}
+use Rattle.std.specs.Prelude.{ℕ, suc, List, [], ◌∷◌, get_or, Bool, true, false, not, ◌==◌, ◌&&◌, ◌||◌, nat_lt}
+use Rattle.std.specs.Prelude.{if◌then◌else◌, min}
 use Rattle.std.specs.List.{prefix_len}
 use Rattle.nr_units.specs.Name.{capacity}
 use Rattle.preconv_converter.specs.declared.half.Half.{Half}

@@ -1,15 +1,19 @@
 -- What goes out.
 use Prim.Native.Char.{code}
-use Rattle.std.specs.Prelude.{ℕ, List, [], ◌∷◌, ◌++◌, Bool, true, false, ◌&&◌, ◌||◌, nat_le, nat_lt, if◌then◌else◌, Option, None, Some, codes}
+use Rattle.std.specs.Prelude.{ℕ, List, [], ◌∷◌, ◌++◌, Bool, true, false, ◌&&◌, ◌||◌, nat_le, nat_lt}
+use Rattle.std.specs.Prelude.{if◌then◌else◌, Option, None, Some, codes}
 use Rattle.preconv_converter.specs.declared.target.Target.{Target}
 use Rattle.utf8_characters.specs.Tables.{character_of}
 use Rattle.preconv_converter.specs.declared.said.Said.{Said}
-use Rattle.preconv_converter.specs.declared.said.Said.TheVariants.{Nothing, Byte, Kept, Native, Hang, Escape, Font, Quotes, Comment, Character, Struck, Marked, Arguments, QuotedArguments}
+use Rattle.preconv_converter.specs.declared.said.Said.TheVariants.{Nothing, Byte, Kept, Native, Hang, Escape}
+use Rattle.preconv_converter.specs.declared.said.Said.TheVariants.{Font, Quotes, Comment, Character, Struck}
+use Rattle.preconv_converter.specs.declared.said.Said.TheVariants.{Marked, Arguments, QuotedArguments}
 use Rattle.preconv_converter.specs.declared.target.Target.TheVariants.{Ascii, Bytes, Utf8}
 use Rattle.preconv_converter.specs.Likeness.{likeness, marked_like, struck_like}
 use Rattle.preconv_converter.specs.Targets.{byte_in_force, is_utf8, itself}
 
--- the nine arguments of a macro: where they are replaced, or once a definition was read; as they are, or each between quotes
+-- the nine arguments of a macro: where they are replaced, or once a definition was read; as they are, or each
+-- between quotes
 abbrev pub arguments : Bool → Bool → List ℕ
 arguments false false = codes "\\$1 \\$2 \\$3 \\$4 \\$5 \\$6 \\$7 \\$8 \\$9"
 arguments true false = codes "\\\\$1 \\\\$2 \\\\$3 \\\\$4 \\\\$5 \\\\$6 \\\\$7 \\\\$8 \\\\$9"
@@ -27,7 +31,8 @@ has_byte Ascii b = false
 has_byte (Bytes table) b = is_some (character_of table b)
 has_byte Utf8 b = nat_le 128 b
 
--- A byte may go out if it is one of ASCII, or one that the table in force has, or a part of a character in UTF-8.
+-- A byte may go out if it is one of ASCII, or one that the table in force has, or a part of a character in
+-- UTF-8.
 abbrev pub may_go_out : Target → ℕ → Bool
 may_go_out table b = nat_lt b 127 || has_byte table b
 

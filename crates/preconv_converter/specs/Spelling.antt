@@ -1,6 +1,8 @@
--- How the name in an escape is spelled (the groff manual, Identifiers): by one byte, two, or between delimiters.
+-- How the name in an escape is spelled (the groff manual, Identifiers): by one byte, two, or between
+-- delimiters.
 use Prim.Native.Char.{code}
-use Rattle.std.specs.Prelude.{ℕ, ◌-◌, [], ◌∷◌, length, take, Bool, true, false, not, ◌==◌, ◌&&◌, ◌||◌, if◌then◌else◌}
+use Rattle.std.specs.Prelude.{ℕ, ◌-◌, [], ◌∷◌, length, take, Bool, true, false, not, ◌==◌, ◌&&◌, ◌||◌}
+use Rattle.std.specs.Prelude.{if◌then◌else◌}
 use Rattle.preconv_converter.specs.declared.said.Said.TheVariants as says
 use Rattle.preconv_converter.specs.declared.half.Half.{Half}
 use Rattle.preconv_converter.specs.declared.half.Escape.TheVariants as escapes
@@ -32,7 +34,8 @@ abbrev pub is_dropped : Kind → Bool
 is_dropped kinds.Dropped = true
 is_dropped kind = false
 
--- one of these escapes gives a name where it stands: a string, a register, an argument, or what the line goes on with
+-- one of these escapes gives a name where it stands: a string, a register, an argument, or what the line goes
+-- on with
 abbrev pub gives_name : ℕ → Bool
 gives_name b =
     (b == code "*") || (b == code "n") || (b == code "$") || (b == code "\\") || (b == code "\"") || (b == code "#")
@@ -54,7 +57,8 @@ font_given h =
 abbrev pub font_escape : ℕ → Half → Offered
 font_escape b h = if gives_name b then font_given h else font_left h
 
--- One that another escape gives, as `\f\*B`, is left to the formatter; before any other letter the backslash itself is a font's name.
+-- One that another escape gives, as `\f\*B`, is left to the formatter; before any other letter the backslash
+-- itself is a font's name.
 abbrev pub target : Kind → ℕ → Half → Offered
 target kind b h =
     if b == code "\n" then abandoned h else

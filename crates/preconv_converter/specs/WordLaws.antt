@@ -10,7 +10,8 @@ use Rattle.preconv_converter.specs.Staged.{said}
 use Rattle.preconv_converter.specs.Pieces.{GoesOut}
 use Rattle.preconv_converter.specs.WrittenLines.{Line, are_lines, written_lines}
 
--- a line begins, nothing is half read, and nothing is translated, no signs to quotes either, whatever came before
+-- a line begins, nothing is half read, and nothing is translated, no signs to quotes either, whatever came
+-- before
 abbrev pub begins_line : Reader → Reader
 begins_line r = record r {
   half = record r.half { line = lines.Start; escape = escapes.Plain; kept = []; translating = false; quotes = false };
@@ -23,7 +24,8 @@ PagesGoOut =
     (table : Target) (lines : List Line) → are_lines lines ≡ true
     → GoesOut table (written_lines lines) (converted table (written_lines lines))
 
--- In any state where a line begins, lines that follow one another, and the end after them, go out piece by piece.
+-- In any state where a line begins, lines that follow one another, and the end after them, go out piece by
+-- piece.
 abbrev pub LinesGoOut : Type 0
 LinesGoOut =
     (r : Reader) (lines : List Line) → are_lines lines ≡ true

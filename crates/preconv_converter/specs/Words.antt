@@ -1,5 +1,5 @@
--- The words of a font macro's line. No more than nine are taken, so the ninth and all after it are one word in quotes;
--- where two fonts take turns, the words after the ninth follow one another with their fonts.
+-- The words of a font macro's line. No more than nine are taken, so the ninth and all after it are one word
+-- in quotes; where two fonts take turns, the words after the ninth follow one another with their fonts.
 use Prim.Native.Char.{code}
 use Rattle.std.specs.Prelude.{ℕ, ◌+◌, Bool, true, false, not, ◌==◌, ◌&&◌, nat_le, if◌then◌else◌}
 use Rattle.preconv_converter.specs.declared.said.Said.{Said}
@@ -10,7 +10,8 @@ use Rattle.preconv_converter.specs.declared.words.WordFont.{WordFont}
 use Rattle.preconv_converter.specs.declared.words.Fonts.{Fonts}
 use Rattle.preconv_converter.specs.declared.words.Fonts.TheVariants.{One, Same, Turn, Tag}
 use Rattle.preconv_converter.specs.declared.words.Place.{Place}
-use Rattle.preconv_converter.specs.declared.words.Place.TheVariants.{Between, Begun, Opened, Inside, Quoted, Closing}
+use Rattle.preconv_converter.specs.declared.words.Place.TheVariants.{Between, Begun, Opened, Inside, Quoted}
+use Rattle.preconv_converter.specs.declared.words.Place.TheVariants.{Closing}
 use Rattle.preconv_converter.specs.declared.words.Class.{Class}
 use Rattle.preconv_converter.specs.declared.words.Class.TheVariants.{Space, Quote, Other}
 
@@ -37,8 +38,8 @@ face_by fonts second = code "R"
 abbrev pub word_face : Words → ℕ
 word_face w = face_by w.fonts w.second
 
--- An escape sets a font for its word and those after it, but where two fonts take turns, and each word has its own. The ninth
--- word and those after it have one number, so that nothing is known of these.
+-- An escape sets a font for its word and those after it, but where two fonts take turns, and each word has
+-- its own. The ninth word and those after it have one number, so that nothing is known of these.
 abbrev pub no_font : WordFont
 no_font = record { word = 0; letter = code "R"; previous = code "R" }
 
@@ -166,8 +167,9 @@ offered_closing Quote said w = emitted Quoted (quoted_said said Quotes w) true w
 offered_closing Space said w = emitted Between (blank_said said w) true w
 offered_closing Other said w = emitted Between (blank_said (Byte (code " ")) w) false w
 
--- After a quote with which a word begins. Blanks before the first word of a filled line are dropped: after the first quote
--- they are printed, as are those between words, and so are those that follow a first word which is empty.
+-- After a quote with which a word begins. Blanks before the first word of a filled line are dropped: after
+-- the first quote they are printed, as are those between words, and so are those that follow a first word
+-- which is empty.
 abbrev pub after_quote : Words → Place
 after_quote w = if w.count == 1 then Opened else Quoted
 

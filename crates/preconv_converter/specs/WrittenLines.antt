@@ -1,6 +1,7 @@
 -- Lines of a page as they are written.
 use Prim.Native.Char.{code}
-use Rattle.std.specs.Prelude.{ℕ, List, [], ◌∷◌, ◌++◌, length, Bool, true, false, not, ◌==◌, ◌&&◌, ◌||◌, Option, None, Some, nat_lt, codes}
+use Rattle.std.specs.Prelude.{ℕ, List, [], ◌∷◌, ◌++◌, length, Bool, true, false, not, ◌==◌, ◌&&◌, ◌||◌}
+use Rattle.std.specs.Prelude.{Option, None, Some, nat_lt, codes}
 use Rattle.preconv_converter.specs.declared.beginnings.Opens.{Opens}
 use Rattle.preconv_converter.specs.declared.beginnings.Opens.TheVariants as opens
 use Rattle.preconv_converter.specs.Beginnings.{opened}
@@ -23,8 +24,8 @@ each test (b ∷ bs) = test b && each test bs
 abbrev pub is_letter : ℕ → Bool
 is_letter b = is_text b && not (ends_name b)
 
--- the lines of these macros and requests are of no account to preconv but for their names: titles, paragraphs, tables, strings,
--- definitions (`de1` becomes `de`), and all that it does not know
+-- the lines of these macros and requests are of no account to preconv but for their names: titles,
+-- paragraphs, tables, strings, definitions (`de1` becomes `de`), and all that it does not know
 abbrev pub passes : Opens → ℕ → Bool
 passes opens.Rest len = true
 passes opens.End len = true
@@ -47,8 +48,8 @@ begins_blank (b ∷ bs) = b == code " "
 
 -- ---- signs of text lines
 
--- a byte; an escape of two bytes that the language has, `\- \& \| \c \e`; a font, `\fB \fI \fP \fR \f1 .. \f5 \fV`; a character
--- beyond ASCII; one by a name of two bytes
+-- a byte; an escape of two bytes that the language has, `\- \& \| \c \e`; a font, `\fB \fI \fP \fR \f1 .. \f5
+-- \fV`; a character beyond ASCII; one by a name of two bytes
 pub data Sign : Type 0 where
   Byte : ℕ → Sign
   Escape : ℕ → Sign
@@ -143,9 +144,9 @@ takes_words o = false
 
 -- ---- lines
 
--- An empty line; a comment, by its control character and its text; a text line, by its first sign and the others; a control
--- character alone; a request's line, by its control character, its name, by the first byte and the others, and what stands after
--- it; and a font macro's, by its words.
+-- An empty line; a comment, by its control character and its text; a text line, by its first sign and the
+-- others; a control character alone; a request's line, by its control character, its name, by the first byte
+-- and the others, and what stands after it; and a font macro's, by its words.
 pub data Line : Type 0 where
   EmptyLine : Line
   CommentLine : ℕ → List ℕ → Line

@@ -2,12 +2,16 @@
 use Rattle.std.specs.Prelude.{ℕ, List, [], ◌∷◌, codes, decimal}
 use Rattle.std.specs.List.{concat}
 use Rattle.nr_machine.specs.declared.outcome.Measure.{Measure}
-use Rattle.nr_machine.specs.declared.outcome.Measure.TheVariants.{Stored, Depth, LineCells, PageCells, Expansions, Moves}
+use Rattle.nr_machine.specs.declared.outcome.Measure.TheVariants.{Stored, Depth, LineCells, PageCells}
+use Rattle.nr_machine.specs.declared.outcome.Measure.TheVariants.{Expansions, Moves}
 use Rattle.nr_command_options.specs.Inputs.{reading_of}
 use Rattle.nr_command.specs.Opening.{name_of}
 use Rattle.program_options.specs.Usage.{usage_text}
 use Rattle.program_command.specs.declared.endings.Ending.{Ending}
-use Rattle.program_command.specs.declared.endings.Ending.TheVariants.{Done, Unshown, Limit, NoRoom, TooLong, BadWord, CannotOpen, NoMacros, ReadFault, WriteFault, OutOfMemory, NeedsOthers, LeftOut, NoFolder}
+use Rattle.program_command.specs.declared.endings.Ending.TheVariants.{Done, Unshown, Limit, NoRoom, TooLong}
+use Rattle.program_command.specs.declared.endings.Ending.TheVariants.{BadWord, CannotOpen, NoMacros}
+use Rattle.program_command.specs.declared.endings.Ending.TheVariants.{ReadFault, WriteFault, OutOfMemory}
+use Rattle.program_command.specs.declared.endings.Ending.TheVariants.{NeedsOthers, LeftOut, NoFolder}
 use Rattle.document_sources.specs.declared.folder.Why.{Why}
 use Rattle.document_sources.specs.declared.folder.Why.TheVariants.{Nothing, Outside, TooMany, Unreadable}
 use Rattle.document_sources.specs.declared.folder.Why.TheVariants as whys

@@ -1,5 +1,6 @@
 -- Whether a page has a table of characters of its own, which, and what that lacks.
-use Rattle.std.specs.Prelude.{◌≡◌, ℕ, List, Bool, true, false, not, ◌&&◌, if◌then◌else◌, [], Option, None, Some}
+use Rattle.std.specs.Prelude.{◌≡◌, ℕ, List, Bool, true, false, not, ◌&&◌, if◌then◌else◌, [], Option, None}
+use Rattle.std.specs.Prelude.{Some}
 use Rattle.preconv_converter.specs.Targets.{target_of}
 use Rattle.preconv_converter.specs.declared.target.Target.TheVariants.{Utf8}
 use Rattle.utf8_own_characters.specs.declared.counting.Count.{Count}
@@ -11,8 +12,8 @@ use Rattle.utf8_own_page.specs.Needing.{lacks}
 use Rattle.document_reader.specs.Page.{plain_of}
 use Rattle.program_command.specs.declared.plan.Plan.{Plan}
 
--- how often each cluster beyond ASCII comes in what the stages make of the bytes that were looked at, and in what frames are drawn
--- with where tables are set: 4,352 clusters at most
+-- how often each cluster beyond ASCII comes in what the stages make of the bytes that were looked at, and in
+-- what frames are drawn with where tables are set: 4,352 clusters at most
 abbrev pub counts_of : Plan → List ℕ → List Count
 counts_of plan first = looking.counts_of 4352 plan.tables (plain_of plan.stages Utf8 first)
 
@@ -42,7 +43,7 @@ abbrev pub numbered_of : Plan → List ℕ → List ℕ
 numbered_of plan first =
     if may_have_numbers plan first then names_of (numbered (target_of plan.characters) (ranked_of plan first)) else []
 
--- WHAT IS REPORTED of a page: the characters that its own table lacks, or those that a fixed one shows by their numbers; nothing where
--- there are none
+-- WHAT IS REPORTED of a page: the characters that its own table lacks, or those that a fixed one shows by
+-- their numbers; nothing where there are none
 abbrev pub unshown_of : Plan → List ℕ → List ℕ
 unshown_of plan first = if needs_own plan first then names_of (left_of (ranked_of plan first)) else numbered_of plan first

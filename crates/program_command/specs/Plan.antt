@@ -1,5 +1,6 @@
 -- How a page is printed, by words, surroundings and the bytes that were looked at.
-use Rattle.std.specs.Prelude.{◌≡◌, ℕ, pos, min, List, [], length, take, Bool, true, false, ◌==◌, ◌||◌, ◌&&◌, if◌then◌else◌, Option, None, Some, IsSomeAnd}
+use Rattle.std.specs.Prelude.{◌≡◌, ℕ, pos, min, List, [], length, take, Bool, true, false, ◌==◌, ◌||◌, ◌&&◌}
+use Rattle.std.specs.Prelude.{if◌then◌else◌, Option, None, Some, IsSomeAnd}
 use Rattle.utf8_characters.specs.declared.table.FixedTable.{FixedTable}
 use Rattle.utf8_characters.specs.declared.table.FixedTable.TheVariants as tables
 use Rattle.utf8_converter.specs.Choosing.{chosen, looked_at}
@@ -43,7 +44,8 @@ abbrev pub is_utf8 : Device → Bool
 is_utf8 Utf8 = true
 is_utf8 other = false
 
--- what is underlined or bold stands between escape sequences: where it is asked for, or a terminal is there that takes them
+-- what is underlined or bold stands between escape sequences: where it is asked for, or a terminal is there
+-- that takes them
 abbrev pub has_escapes : Faces → Bool → Bool
 has_escapes faces.Auto shows = shows
 has_escapes faces.On shows = true
@@ -93,7 +95,8 @@ IsSelected (Some text) select = IsSomeAnd select (λ items. IsPageList items tex
 abbrev pub looks_for : Bool → Looks
 looks_for all = if all then All else Letters
 
--- The first page's number and the pages of the words, no register; bold shows where it is asked for, and between escape sequences.
+-- The first page's number and the pages of the words, no register; bold shows where it is asked for, and
+-- between escape sequences.
 pub record AreOptions (job : Asked) (plan : Plan) (options : Options) : Type 0 where
   pub first : options.first ≡ pos (min job.plain.first 2147483647)
   pub registers : options.registers.items ≡ []

@@ -1,5 +1,6 @@
 -- What the program comes to over its words.
-use Rattle.std.specs.Prelude.{◌≡◌, ◌≢◌, ℕ, List, [], Bool, true, not, IsTrue, Option, None, Result, Ok, Err, ◌⊎◌, ⊤}
+use Rattle.std.specs.Prelude.{◌≡◌, ◌≢◌, ℕ, List, [], Bool, true, not, IsTrue, Option, None, Result, Ok, Err}
+use Rattle.std.specs.Prelude.{◌⊎◌, ⊤}
 use Rattle.std.specs.Io.KnownBytes.{Keeps}
 use Rattle.std.specs.Option.{option_map}
 use Rattle.nr_units.specs.Source.{Supply}
@@ -13,7 +14,8 @@ use Rattle.program_plan.specs.Texts.{readings_of}
 use Rattle.program_command.specs.Running.{IsNamed, Runs, files_of, text_of}
 use Rattle.program_command.specs.Warnings.{Heard, TellsTexts}
 use Rattle.program_command.specs.declared.endings.Ending.{Ending}
-use Rattle.program_command.specs.declared.endings.Ending.TheVariants.{BadWord, CannotOpen, NoFolder, NoMacros, OutOfMemory, WriteFault}
+use Rattle.program_command.specs.declared.endings.Ending.TheVariants.{BadWord, CannotOpen, NoFolder, NoMacros}
+use Rattle.program_command.specs.declared.endings.Ending.TheVariants.{OutOfMemory, WriteFault}
 use Rattle.program_command.specs.declared.surroundings.Surroundings.{Surroundings}
 
 -- why a job of good words isn't run
@@ -31,8 +33,8 @@ IsOfRun (NoMacros name) = ⊥
 IsOfRun (NoFolder path) = ⊥
 IsOfRun other = ⊤
 
--- What was asked to be opened of these texts: the first that can't be is reported, and those before it were opened; else all of
--- them were, each once and in order, or none.
+-- What was asked to be opened of these texts: the first that can't be is reported, and those before it were
+-- opened; else all of them were, each once and in order, or none.
 abbrev pub Opens : (Reading → Opening → Type 0) → Option (List Reading) → Option (List Reading) → List Reading
     → Ending → Type 0
 Opens may_come asked asked' readings (CannotOpen input) =
@@ -66,8 +68,8 @@ pub record EndsUnrun (ending : Ending) (held new : Option (List ℕ)) : Type 0 w
   pub unrun : IsNotRun ending
   pub kept : Keeps held new
 
--- What is wrong with the texts of a job was reported, if words ask for it, and then its pages came to this, with the texts of the folder
--- that words name.
+-- What is wrong with the texts of a job was reported, if words ask for it, and then its pages came to this,
+-- with the texts of the folder that words name.
 pub record Warned (job : Asked) (around : Surroundings) (coding : Option Coding) (folder : Option (Option Texts)) (given : List (Option Supply))
     (ending : Ending) (held new : Option (List ℕ)) (before after : Heard) : Type 0 where
   pub reported : TellsTexts job coding 0 given before after
@@ -94,8 +96,8 @@ abbrev pub ComesToPages : (Reading → Opening → Type 0) → (List ℕ → Opt
 ComesToPages may_come texts_in job around ending held new before after =
     job.plain.says ≡ None → ComesTo may_come texts_in job around ending held new before after
 
--- Where a word is bad nothing is opened and nothing printed. Else the texts of the job are opened, what they come to is printed, and
--- passed on.
+-- Where a word is bad nothing is opened and nothing printed. Else the texts of the job are opened, what they
+-- come to is printed, and passed on.
 abbrev pub Comes : Result Asked Complaint → Surroundings → (Reading → Opening → Type 0) → (List ℕ → Option Texts)
     → Option (List Reading) → Option (List Reading) → Type 0 → Type 0 → Option (List ℕ) → Option (List ℕ) → Bool → Heard → Heard
     → Ending → Type 0

@@ -1,5 +1,6 @@
 -- What the texts of a job come to.
-use Rattle.std.specs.Prelude.{◌≡◌, ◌≢◌, ◌⊎◌, ℕ, List, [], ◌∷◌, ◌++◌, length, drop, take, codes, Bool, true, false, ◌&&◌, Option, Some, None, ⊤}
+use Rattle.std.specs.Prelude.{◌≡◌, ◌≢◌, ◌⊎◌, ℕ, List, [], ◌∷◌, ◌++◌, length, drop, take, codes, Bool, true}
+use Rattle.std.specs.Prelude.{false, ◌&&◌, Option, Some, None, ⊤}
 use Rattle.std.specs.Io.KnownBytes.{Keeps}
 use Rattle.nr_units.specs.Source.{Supply}
 use Rattle.nr_command_options.specs.Files.{files_supply}
@@ -21,7 +22,9 @@ use Rattle.program_command.specs.Own.{unshown_of}
 use Rattle.program_command.specs.Plan.{AreOptions, IsSelected, kind_of, page_limits_of, plan_of}
 use Rattle.program_command.specs.Printing.{AreAllShort, Printed}
 use Rattle.program_command.specs.declared.endings.Ending.{Ending}
-use Rattle.program_command.specs.declared.endings.Ending.TheVariants.{Done, Unshown, Limit, NoRoom, TooLong, ReadFault, WriteFault, OutOfMemory, NeedsOthers, LeftOut}
+use Rattle.program_command.specs.declared.endings.Ending.TheVariants.{Done, Unshown, Limit, NoRoom, TooLong}
+use Rattle.program_command.specs.declared.endings.Ending.TheVariants.{ReadFault, WriteFault, OutOfMemory}
+use Rattle.program_command.specs.declared.endings.Ending.TheVariants.{NeedsOthers, LeftOut}
 use Rattle.program_command.specs.declared.endings.Place.{Place}
 use Rattle.program_command.specs.declared.plan.Plan.{Plan}
 use Rattle.program_command.specs.declared.running.Reading.{Reading}
@@ -40,8 +43,8 @@ pages_of job texts = drop (length (macro_names job)) texts
 abbrev pub files_of : Asked → List (Option Supply) → Option Supply
 files_of job given = files_supply (take (length (macro_names job)) given)
 
--- pages, and in the places of the lines that name them the texts of a folder, where there is one: 64 lines are followed, and
--- 64 MiB are read
+-- pages, and in the places of the lines that name them the texts of a folder, where there is one: 64 lines
+-- are followed, and 64 MiB are read
 abbrev pub with_named : Option (Option Texts) → Option Supply → Option Supply
 with_named None pages = pages
 with_named (Some texts) pages = followed texts pages 8192 64 67108864
@@ -67,8 +70,8 @@ IsWholeBut name unshown Done = unshown ≡ []
 IsWholeBut name unshown (Unshown first names) = (first.now ≡ name) × (names.items ≡ unshown) × (unshown ≢ [])
 IsWholeBut name unshown other = ⊥
 
--- How the end of a page is reported, with the line that was read last, or the characters that are not shown; that the output failed,
--- also where it did after the page.
+-- How the end of a page is reported, with the line that was read last, or the characters that are not shown;
+-- that the output failed, also where it did after the page.
 abbrev pub IsReported : List ℕ → List ℕ → Report → Ending → Type 0
 IsReported name unshown report Done = (report.outcome ≡ outcomes.Done) × IsWholeBut name unshown Done
 IsReported name unshown report (Unshown first names) = (report.outcome ≡ outcomes.Done) × IsWholeBut name unshown (Unshown first names)
@@ -96,7 +99,8 @@ IsWhole other = ⊥
 abbrev pub MayLeaveOut : List ℕ → Ending → Ending → Type 0
 MayLeaveOut name before after = (after ≡ before) ⊎ (IsWhole before × IsLeftOut name after)
 
--- A run may end so before its page: a macro file fails, memory is wanting; or the output, which was flushed, failed.
+-- A run may end so before its page: a macro file fails, memory is wanting; or the output, which was flushed,
+-- failed.
 abbrev pub IsBefore : Ending → Type 0
 IsBefore (ReadFault place) = ⊤
 IsBefore WriteFault = ⊤
@@ -109,14 +113,15 @@ IsBefore other = ⊥
 abbrev pub is_for_others : Asked → List ℕ → Bool
 is_for_others job first = job.plain.is_alone && asks_for_others first
 
--- What is read before a page begins with what words set. Macro files of the program may follow, and then come those of a folder.
+-- What is read before a page begins with what words set. Macro files of the program may follow, and then come
+-- those of a folder.
 pub record AreMacros (job : Asked) (kind : Macros) (files : Option Supply) (macros : List ℕ) : Type 0 where
   pub own : List ℕ
   pub begins : BeginsWith (prefix (is_of_manual kind) job) own
   pub read : (q : Supply) → files ≡ Some q → macros ≡ own ++ q.bytes
 
--- A text goes out as a document, after macros: by the plan of words, surroundings and the first bytes of it, which were looked
--- at, and under the limits of the words. How it ended is reported.
+-- A text goes out as a document, after macros: by the plan of words, surroundings and the first bytes of it,
+-- which were looked at, and under the limits of the words. How it ended is reported.
 pub record IsDocument (job : Asked) (around : Surroundings) (files : Option Supply) (q : Supply) (ending : Ending)
     (held new : Option (List ℕ)) : Type 0 where
   pub first : List ℕ
@@ -166,8 +171,8 @@ PrefixGives job around files supply ending held new =
     AsksForPages job → (q : Supply) → supply ≡ Some q → breaks_off q.faults ≡ false → AreAllShort q.bytes
     → EndsBefore ending held new ⊎ IsDocument job around files q ending held new
 
--- Where texts are only checked nothing goes out. Where pages are asked for, and it is known what a text is to give, that is what comes
--- of it.
+-- Where texts are only checked nothing goes out. Where pages are asked for, and it is known what a text is to
+-- give, that is what comes of it.
 pub record Runs (job : Asked) (around : Surroundings) (files supply : Option Supply) (ending : Ending)
     (held new : Option (List ℕ)) : Type 0 where
   pub checks : job.plain.checks ≡ true → Keeps held new

@@ -1,5 +1,6 @@
 -- What is reported of texts in which something is wrong.
-use Rattle.std.specs.Prelude.{◌≡◌, ◌≢◌, ℕ, ◌+◌, ◌-◌, ◌≤◌, List, [], ◌∷◌, ◌++◌, drop, length, nat_le, codes, Bool, true, false, ◌&&◌, Option, None, Some, ◌⊎◌, if◌then◌else◌}
+use Rattle.std.specs.Prelude.{◌≡◌, ◌≢◌, ℕ, ◌+◌, ◌-◌, ◌≤◌, List, [], ◌∷◌, ◌++◌, drop, length, nat_le, codes}
+use Rattle.std.specs.Prelude.{Bool, true, false, ◌&&◌, Option, None, Some, ◌⊎◌, if◌then◌else◌}
 use Rattle.std.specs.List.{concat}
 use Rattle.nr_units.specs.Failures.{SinkFailures}
 use Rattle.nr_units.specs.Source.{Never, Supply}

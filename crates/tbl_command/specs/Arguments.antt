@@ -1,6 +1,7 @@
 -- What the words of the command line come to.
 use Prim.Native.Char.{code}
-use Rattle.std.specs.Prelude.{◌≡◌, ℕ, ◌+◌, ◌-◌, ◌≤◌, ◌⊎◌, List, [], ◌∷◌, ◌++◌, map, Bool, true, false, ◌==◌, Option, None, Some, Result, Ok, Err, codes}
+use Rattle.std.specs.Prelude.{◌≡◌, ℕ, ◌+◌, ◌-◌, ◌≤◌, ◌⊎◌, List, [], ◌∷◌, ◌++◌, map, Bool, true, false, ◌==◌}
+use Rattle.std.specs.Prelude.{Option, None, Some, Result, Ok, Err, codes}
 use Rattle.std.specs.Borrow.{Bor}
 use Rattle.std.specs.Str.{bytes_eq}
 use Rattle.std.specs.Str.Parse.{IsNumeral, digits_value}
@@ -107,8 +108,8 @@ Sets word place answer next =
     ((setting : Setting) × Means setting word × next setting)
     ⊎ ((wrong : Wrong) × IsBad wrong word × (answer ≡ is_wrong place wrong))
 
--- Words from this place on, up to the first file, where a table's name may be awaited and this is asked for so far: the last that sets the
--- same counts. The first that can't be taken is reported by its place.
+-- Words from this place on, up to the first file, where a table's name may be awaited and this is asked for
+-- so far: the last that sets the same counts. The first that can't be taken is reported by its place.
 abbrev pub ComesTo : Bool → Job → ℕ → List (List ℕ) → Result Job BadWord → Type 0
 ComesTo true job place [] answer = answer ≡ is_wrong (place - 1) NoTable
 ComesTo false job place [] answer = answer ≡ Ok (at place job)

@@ -4,7 +4,10 @@ use Rattle.std.specs.Prelude.{ℕ, List, [], ◌∷◌, ◌++◌, Bool, ◌&&◌
 use Rattle.std.specs.List.{concat, flat_map}
 use Rattle.tbl_reader.specs.declared.complaint.Complaint.{Complaint}
 use Rattle.tbl_reader.specs.declared.complaint.Kind.{Kind}
-use Rattle.tbl_reader.specs.declared.complaint.Kind.TheVariants.{NoFormat, BadFormat, UnknownOption, BadArgument, TooManyFields, OpenBlock, OpenTable, TooManyColumns, FormatsLimit, RowLimit, TooWide, UnsetRequest}
+use Rattle.tbl_reader.specs.declared.complaint.Kind.TheVariants.{NoFormat, BadFormat, UnknownOption}
+use Rattle.tbl_reader.specs.declared.complaint.Kind.TheVariants.{BadArgument, TooManyFields, OpenBlock}
+use Rattle.tbl_reader.specs.declared.complaint.Kind.TheVariants.{OpenTable, TooManyColumns, FormatsLimit}
+use Rattle.tbl_reader.specs.declared.complaint.Kind.TheVariants.{RowLimit, TooWide, UnsetRequest}
 
 -- ---- what is wrong
 

@@ -1,5 +1,6 @@
 -- What tbl makes of texts, and what its words ask for.
-use Rattle.std.specs.Prelude.{◌≡◌, ℕ, List, [], drop, get_or, min, Bool, true, false, Option, None, Some, Result, Ok, Err, codes}
+use Rattle.std.specs.Prelude.{◌≡◌, ℕ, List, [], drop, get_or, min, Bool, true, false, Option, None, Some}
+use Rattle.std.specs.Prelude.{Result, Ok, Err, codes}
 use Rattle.tbl_table.specs.declared.signs.Signs.{Signs}
 use Rattle.tbl_reader.specs.declared.running.ReadEnd.{ReadEnd}
 use Rattle.tbl_reader.specs.declared.running.ReadEnd.TheVariants as outcomes
@@ -11,7 +12,8 @@ use Rattle.utf8_own_page.specs.Signs.{signs_for}
 use Rattle.filters.specs.Program as programs
 use Rattle.filters.specs.Turning.{Filter}
 use Rattle.filters.specs.declared.endings.Ending.{Ending}
-use Rattle.filters.specs.declared.endings.Ending.TheVariants.{Done, Complained, TooLong, ReadFault, WriteFault}
+use Rattle.filters.specs.declared.endings.Ending.TheVariants.{Done, Complained, TooLong, ReadFault}
+use Rattle.filters.specs.declared.endings.Ending.TheVariants.{WriteFault}
 use Rattle.filters_own.specs.declared.names.Named.{Named}
 use Rattle.filters_own.specs.declared.names.Named.TheVariants.{Fixed, Own}
 use Rattle.filters_own.specs.Looking.{AsksForOwn}

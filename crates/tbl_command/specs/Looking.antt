@@ -21,7 +21,8 @@ all_wrong b page = wrongs (page_said b.limits page) (page_setting b)
 abbrev pub goes_in_parts : Bounds → List ℕ → Bool
 goes_in_parts b page = (set (page_said b.limits page) (page_setting b)).layout.uneven
 
--- the first 64 complaints are kept, and it is known whether there are more, and whether a table goes out in parts
+-- the first 64 complaints are kept, and it is known whether there are more, and whether a table goes out in
+-- parts
 pub record AreReportedOf (job : Job) (page : List ℕ) (tables : Tables) : Type 0 where
   pub first : tables.complaints.items ≡ take 64 (all_wrong (bounds_for job) page)
   pub more : tables.report.missed ≡ nat_lt 64 (length (all_wrong (bounds_for job) page))

@@ -1,5 +1,6 @@
--- Fields fit in the columns with which a table goes out, where it is not narrowed (Lesk, "Usage"; tbl(1), "Column modifiers"): whatever blocks,
--- shares of the line and spaces add to these. (By the fields alone: tbl_columns, Laws.)
+-- Fields fit in the columns with which a table goes out, where it is not narrowed (Lesk, "Usage"; tbl(1),
+-- "Column modifiers"): whatever blocks, shares of the line and spaces add to these. (By the fields alone:
+-- tbl_columns, Laws.)
 use Rattle.std.specs.Prelude.{◌≡◌, ℕ, ◌<◌, ◌≤◌, ◌^◌, max, true, false, length}
 use Rattle.tbl_columns.specs.declared.grid.Grid.{Grid}
 use Rattle.tbl_columns.specs.Columns.{measures, needs, span_width, spans}
@@ -14,7 +15,8 @@ FieldsFitAtLast =
     → spans (cell_of g n) ≡ false → (cell_of g n).first < columns g
     → needs (cell_of g n) ≤ (column (measured_table g) (cell_of g n).first).width
 
--- and several with the spaces between them no narrower than one that stands in these, but with expand, by which spaces may be less
+-- and several with the spaces between them no narrower than one that stands in these, but with expand, by
+-- which spaces may be less
 abbrev pub SpansFitAtLast : Type 0
 SpansFitAtLast =
     (g : Grid) (n : ℕ) → is_too_wide (measured_columns g) ≡ false → g.table.looks.expand ≡ false → n < length g.cells.items

@@ -1,4 +1,5 @@
--- The rows that are emitted are held as they were emitted, until the table goes out: the text of each field once, in their order.
+-- The rows that are emitted are held as they were emitted, until the table goes out: the text of each field
+-- once, in their order.
 use Rattle.std.specs.Prelude.{◌≡◌, ℕ, ◌+◌, ◌<◌, ◌≤◌, List, [], ◌∷◌, ◌++◌, length, map, true}
 use Rattle.tbl_reader.specs.declared.telling.Tell.{Tell}
 use Rattle.tbl_reader.specs.declared.telling.Tell.TheVariants as tells

@@ -1,6 +1,8 @@
--- What goes out for the rows of a table: a line for each, on which its fields stand, each once and in the order of columns (Lesk, "Data";
--- tbl(1), "Table data"). So it is on a page with one table; what stands outside of it goes out as it came.
-use Rattle.std.specs.Prelude.{◌≡◌, ℕ, ◌+◌, ◌*◌, ◌<◌, ◌≤◌, List, [], ◌∷◌, ◌++◌, length, replicate, codes, Bool, true, false, not, nat_le, nat_lt, if◌then◌else◌, ◌==◌, ◌&&◌, ◌||◌}
+-- What goes out for the rows of a table: a line for each, on which its fields stand, each once and in the
+-- order of columns (Lesk, "Data"; tbl(1), "Table data"). So it is on a page with one table; what stands
+-- outside of it goes out as it came.
+use Rattle.std.specs.Prelude.{◌≡◌, ℕ, ◌+◌, ◌*◌, ◌<◌, ◌≤◌, List, [], ◌∷◌, ◌++◌, length, replicate, codes, Bool}
+use Rattle.std.specs.Prelude.{true, false, not, nat_le, nat_lt, if◌then◌else◌, ◌==◌, ◌&&◌, ◌||◌}
 use Prim.Native.Char.{code}
 use Rattle.tbl_columns.specs.Frames.{table_end}
 use Rattle.tbl_columns.specs.Shares.{line_room}

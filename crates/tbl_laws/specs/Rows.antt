@@ -1,6 +1,7 @@
--- The rows of a table are emitted as they stand on the page (Lesk, "Data"; tbl(1), "Table data"): each field once, in the order of rows and
--- columns.
-use Rattle.std.specs.Prelude.{◌≡◌, ℕ, suc, ◌+◌, ◌<◌, ◌≤◌, List, [], ◌∷◌, ◌++◌, length, Bool, true, false, not, ◌==◌, ◌&&◌, ◌||◌, Some, codes, if◌then◌else◌}
+-- The rows of a table are emitted as they stand on the page (Lesk, "Data"; tbl(1), "Table data"): each field
+-- once, in the order of rows and columns.
+use Rattle.std.specs.Prelude.{◌≡◌, ℕ, suc, ◌+◌, ◌<◌, ◌≤◌, List, [], ◌∷◌, ◌++◌, length, Bool, true, false, not}
+use Rattle.std.specs.Prelude.{◌==◌, ◌&&◌, ◌||◌, Some, codes, if◌then◌else◌}
 use Prim.Native.Char.{code}
 use Rattle.tbl_table.specs.Rows.{joins}
 use Rattle.tbl_reader.specs.declared.field.Mark.TheVariants as marks

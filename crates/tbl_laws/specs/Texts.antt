@@ -1,7 +1,8 @@
--- Each field's text goes out once, and in the order of columns (Lesk, "Data"; tbl(1), "Table data"): among the strokes of a line stand the
--- texts of the fields that stand on it, of blocks the text of one of their lines, and no others; and they stand in its bytes, one after the
--- other.
-use Rattle.std.specs.Prelude.{◌≡◌, ℕ, zero, suc, ◌-◌, Bool, ◌==◌, ◌&&◌, nat_le, List, [], ◌∷◌, ◌++◌, Option, None, Some, if◌then◌else◌}
+-- Each field's text goes out once, and in the order of columns (Lesk, "Data"; tbl(1), "Table data"): among
+-- the strokes of a line stand the texts of the fields that stand on it, of blocks the text of one of their
+-- lines, and no others; and they stand in its bytes, one after the other.
+use Rattle.std.specs.Prelude.{◌≡◌, ℕ, zero, suc, ◌-◌, Bool, ◌==◌, ◌&&◌, nat_le, List, [], ◌∷◌, ◌++◌, Option}
+use Rattle.std.specs.Prelude.{None, Some, if◌then◌else◌}
 use Rattle.tbl_blocks.specs.declared.parts.Line.{Line}
 use Rattle.tbl_columns.specs.declared.grid.Block.{Block}
 use Rattle.tbl_columns.specs.declared.grid.Cell.{Cell}
@@ -10,7 +11,8 @@ use Rattle.tbl_columns.specs.Held.{block_of, cell_number, cell_of, columns}
 use Rattle.tbl_columns.specs.Texts.{line_in_row}
 use Rattle.tbl_drawing.specs.declared.layout.Layout.{Layout}
 use Rattle.tbl_drawing.specs.declared.pen.Pen.{Pen}
-use Rattle.tbl_drawing.specs.Drawing.{bars_strokes, edge_strokes, field_text, has_letters, line_text, row_strokes, rule_strokes, whole}
+use Rattle.tbl_drawing.specs.Drawing.{bars_strokes, edge_strokes, field_text, has_letters, line_text}
+use Rattle.tbl_drawing.specs.Drawing.{row_strokes, rule_strokes, whole}
 use Rattle.tbl_drawing.specs.Held.{begin_line}
 use Rattle.tbl_drawing.specs.Pens.{Stroke, Text, bytes_of}
 use Rattle.tbl_table.specs.Held.{has_text, is_rule}

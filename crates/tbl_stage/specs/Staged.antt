@@ -1,5 +1,7 @@
--- A page with tables is turned a part at a time: what goes out of bytes that are to come, and of the end after them, if it comes.
-use Rattle.std.specs.Prelude.{◌≡◌, ℕ, ◌+◌, ◌≤◌, List, [], ◌∷◌, ◌++◌, length, Bool, true, false, not, ◌&&◌, nat_le, nat_lt, Option, None, Some, if◌then◌else◌}
+-- A page with tables is turned a part at a time: what goes out of bytes that are to come, and of the end
+-- after them, if it comes.
+use Rattle.std.specs.Prelude.{◌≡◌, ℕ, ◌+◌, ◌≤◌, List, [], ◌∷◌, ◌++◌, length, Bool, true, false, not, ◌&&◌}
+use Rattle.std.specs.Prelude.{nat_le, nat_lt, Option, None, Some, if◌then◌else◌}
 use Rattle.nr_vectors.specs.Items.{Items}
 use Rattle.tbl_reader.specs.declared.complaint.Complaint.{Complaint}
 use Rattle.tbl_reader.specs.Ending.{first_page, next_read}
@@ -12,7 +14,8 @@ use Rattle.tbl_setting.specs.Setting.{set}
 use Rattle.tbl_setting.specs.Stepping.{next_bytes}
 use Rattle.tbl_stage.specs.Rooms.{Room}
 
--- what was read of a page, and what is set of it; how many bytes came, and whether more would have gone out at once than may
+-- what was read of a page, and what is set of it; how many bytes came, and whether more would have gone out
+-- at once than may
 pub record Held : Type 0 where
   pub page : Page
   pub setting : Setting

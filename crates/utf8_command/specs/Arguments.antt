@@ -1,13 +1,15 @@
 -- What the words of the command line come to.
 use Prim.Native.Char.{code}
-use Rattle.std.specs.Prelude.{ℕ, ◌+◌, ◌<◌, ◌≤◌, List, [], ◌∷◌, length, Bool, true, false, ◌==◌, nat_lt, if◌then◌else◌, Option, None, Some, Result, Ok, Err, codes, slice_get}
+use Rattle.std.specs.Prelude.{ℕ, ◌+◌, ◌<◌, ◌≤◌, List, [], ◌∷◌, length, Bool, true, false, ◌==◌, nat_lt}
+use Rattle.std.specs.Prelude.{if◌then◌else◌, Option, None, Some, Result, Ok, Err, codes, slice_get}
 use Rattle.std.specs.Str.{bytes_eq}
 use Rattle.filters_own.specs.declared.names.Named.{Named}
 use Rattle.filters_own.specs.Names.{table_at}
 use Rattle.utf8_command.specs.declared.arguments.Job.{Job}
 use Rattle.utf8_command.specs.declared.arguments.Job.TheVariants.{Turn, Choose, Version}
 use Rattle.utf8_command.specs.declared.arguments.Wrong.{Wrong}
-use Rattle.utf8_command.specs.declared.arguments.Wrong.TheVariants.{UnknownOption, UnknownTable, NoTable, SeveralFiles}
+use Rattle.utf8_command.specs.declared.arguments.Wrong.TheVariants.{UnknownOption, UnknownTable, NoTable}
+use Rattle.utf8_command.specs.declared.arguments.Wrong.TheVariants.{SeveralFiles}
 
 -- an option begins with `-`
 abbrev pub is_option : List ℕ → Bool

@@ -1,5 +1,6 @@
 -- What utf8 makes of texts, and what its words ask for.
-use Rattle.std.specs.Prelude.{◌≡◌, ℕ, List, [], ◌∷◌, drop, get_or, Bool, true, false, Some, Result, Ok, Err, codes}
+use Rattle.std.specs.Prelude.{◌≡◌, ℕ, List, [], ◌∷◌, drop, get_or, Bool, true, false, Some, Result, Ok, Err}
+use Rattle.std.specs.Prelude.{codes}
 use Rattle.std.specs.Borrow.{Bor}
 use Rattle.utf8_characters.specs.declared.table.FixedTable.{FixedTable}
 use Rattle.utf8_converter.specs.Cells.{converted}
@@ -21,9 +22,11 @@ use Rattle.utf8_command.specs.Choosing.{AsksForChoice}
 use Rattle.utf8_command.specs.declared.arguments.Job.{Job}
 use Rattle.utf8_command.specs.declared.arguments.Job.TheVariants.{Turn, Choose, Version}
 use Rattle.utf8_command.specs.declared.arguments.Wrong.{Wrong}
-use Rattle.utf8_command.specs.declared.arguments.Wrong.TheVariants.{UnknownOption, UnknownTable, NoTable, SeveralFiles}
+use Rattle.utf8_command.specs.declared.arguments.Wrong.TheVariants.{UnknownOption, UnknownTable, NoTable}
+use Rattle.utf8_command.specs.declared.arguments.Wrong.TheVariants.{SeveralFiles}
 
--- A text is turned into UTF-8, bytes from 128 on by a table, with escape sequences or without; no text is complained of.
+-- A text is turned into UTF-8, bytes from 128 on by a table, with escape sequences or without; no text is
+-- complained of.
 abbrev pub utf8 : FixedTable → Bool → Filter
 utf8 table escapes = record {
   text_of = λ bytes. bytes;

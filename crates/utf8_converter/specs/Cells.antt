@@ -1,6 +1,8 @@
--- What comes of bytes: they are read into cells, and cells are printed. (groff manual, grotty; less(1); ul(1).)
+-- What comes of bytes: they are read into cells, and cells are printed. (groff manual, grotty; less(1);
+-- ul(1).)
 use Prim.Native.Char.{code}
-use Rattle.std.specs.Prelude.{ℕ, ◌+◌, ◌-◌, List, [], ◌∷◌, ◌++◌, length, Bool, true, false, not, ◌==◌, ◌&&◌, ◌||◌, nat_le, nat_lt, if◌then◌else◌, Option, None, Some, is_some, codes}
+use Rattle.std.specs.Prelude.{ℕ, ◌+◌, ◌-◌, List, [], ◌∷◌, ◌++◌, length, Bool, true, false, not, ◌==◌, ◌&&◌}
+use Rattle.std.specs.Prelude.{◌||◌, nat_le, nat_lt, if◌then◌else◌, Option, None, Some, is_some, codes}
 use Rattle.std.specs.Char.{encode_utf8}
 use Rattle.nr_vectors.specs.Cell.{is_under}
 use Rattle.nr_vectors.specs.declared.cell.Look.{Look}

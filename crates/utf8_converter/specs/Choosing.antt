@@ -1,11 +1,14 @@
 -- Which table a page takes: the one that has most of its characters, and so leaves the fewest out.
 use Prim.Native.Char.{code}
-use Rattle.std.specs.Prelude.{◌≡◌, ℕ, zero, suc, ◌+◌, ◌*◌, ◌%◌, ◌<◌, ◌≤◌, List, [], ◌∷◌, ◌++◌, length, take, get_or, Bool, ◌==◌, ◌&&◌, nat_lt, if◌then◌else◌, Option, None, Some, Result, Ok, Err, ⊤, ◌⊎◌}
+use Rattle.std.specs.Prelude.{◌≡◌, ℕ, zero, suc, ◌+◌, ◌*◌, ◌%◌, ◌<◌, ◌≤◌, List, [], ◌∷◌, ◌++◌, length, take}
+use Rattle.std.specs.Prelude.{get_or, Bool, ◌==◌, ◌&&◌, nat_lt, if◌then◌else◌, Option, None, Some, Result, Ok}
+use Rattle.std.specs.Prelude.{Err, ⊤, ◌⊎◌}
 use Rattle.std.specs.List.{sum_by}
 use Rattle.nr_units.specs.Source.{Supply}
 use Rattle.document_stages.specs.Running.{Ends}
 use Rattle.utf8_characters.specs.declared.table.FixedTable.{FixedTable}
-use Rattle.utf8_characters.specs.declared.table.FixedTable.TheVariants.{English, Latin, Cyrillic, Greek, Latin1}
+use Rattle.utf8_characters.specs.declared.table.FixedTable.TheVariants.{English, Latin, Cyrillic, Greek}
+use Rattle.utf8_characters.specs.declared.table.FixedTable.TheVariants.{Latin1}
 use Rattle.utf8_characters.specs.OneCell.{is_within}
 use Rattle.utf8_characters.specs.Tables.{characters}
 use Rattle.utf8_converter.specs.declared.names.TheConstants.{NAMES}
@@ -68,7 +71,8 @@ better page first second = if nat_lt (covered page first) (covered page second) 
 abbrev pub if_any : ℕ → FixedTable → FixedTable
 if_any count table = if count == 0 then English else table
 
--- The one that has most; where several have as many, the first of these: `english` draws boxes and `latin` does not.
+-- The one that has most; where several have as many, the first of these: `english` draws boxes and `latin`
+-- does not.
 abbrev pub fullest : List ℕ → FixedTable
 fullest page = better page (better page (better page English Latin) Cyrillic) Greek
 

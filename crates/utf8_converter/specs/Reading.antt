@@ -3,7 +3,8 @@ use Rattle.std.specs.Prelude.{ℕ, ◌+◌, List, [], ◌∷◌, ◌++◌, Bool,
 use Rattle.nr_vectors.specs.declared.cell.Look.{Look}
 use Rattle.nr_vectors.specs.declared.cell.Look.TheVariants.{Plain}
 use Rattle.utf8_characters.specs.declared.table.FixedTable.{FixedTable}
-use Rattle.utf8_converter.specs.Cells.{Cell, Once, Over, drawn, first_way, goes_out, shows, strikes, turning, way_after, way_to}
+use Rattle.utf8_converter.specs.Cells.{Cell, Once, Over, drawn, first_way, goes_out, shows, strikes, turning}
+use Rattle.utf8_converter.specs.Cells.{way_after, way_to}
 use Rattle.utf8_converter.specs.declared.reader.Half.{Half}
 use Rattle.utf8_converter.specs.declared.reader.Half.TheVariants.{Nothing, Byte, Backspaced}
 use Rattle.utf8_converter.specs.declared.reader.Reader.{Reader}

@@ -19,8 +19,8 @@ abbrev pub drops : FixedTable → Bool → Bool → List ℕ → ℕ
 drops table escapes true bytes = strays_of table bytes
 drops table escapes false bytes = (fed (first_reader table escapes) bytes).strays
 
--- All of it, or the first of it, came and was turned. Whatever comes, at most four bytes go out for each: a text for a
--- terminal, in lines of as many cells with the same characters.
+-- All of it, or the first of it, came and was turned. Whatever comes, at most four bytes go out for each: a
+-- text for a terminal, in lines of as many cells with the same characters.
 pub record Ran (table : FixedTable) (escapes : Bool) (first last : Option Supply) (held new : Option (List ℕ)) (strays : ℕ)
     (outcome : RunEnd) : Type 0 where
   pub ran : runs.Ran (says table escapes) (drops table escapes) 1536 first last held new strays outcome

@@ -1,6 +1,7 @@
 -- Bytes that stand together in whole cells: those of one byte, and those of three that are struck.
 use Prim.Native.Char.{code}
-use Rattle.std.specs.Prelude.{◌≡◌, ℕ, ◌+◌, ◌<◌, List, get_or, Bool, true, not, ◌==◌, ◌&&◌, ◌||◌, nat_le, nat_lt}
+use Rattle.std.specs.Prelude.{◌≡◌, ℕ, ◌+◌, ◌<◌, List, get_or, Bool, true, not, ◌==◌, ◌&&◌, ◌||◌, nat_le}
+use Rattle.std.specs.Prelude.{nat_lt}
 use Rattle.utf8_converter.specs.Cells.{is_shown}
 
 -- one of ASCII that is shown, or one beyond ASCII

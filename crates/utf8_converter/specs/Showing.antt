@@ -1,11 +1,13 @@
 -- A sink that shows bytes in another sink.
-use Rattle.std.specs.Prelude.{◌≡◌, ℕ, ◌+◌, ◌<◌, ◌≤◌, List, [], ◌∷◌, ◌++◌, length, take, Bool, true, false, if◌then◌else◌, Option, None, Some, Result, Ok, Err, ⊤}
+use Rattle.std.specs.Prelude.{◌≡◌, ℕ, ◌+◌, ◌<◌, ◌≤◌, List, [], ◌∷◌, ◌++◌, length, take, Bool, true, false}
+use Rattle.std.specs.Prelude.{if◌then◌else◌, Option, None, Some, Result, Ok, Err, ⊤}
 use Rattle.std.specs.Io.KnownBytes.{Appends}
 use Rattle.nr_units.specs.Failures.{SinkFailures, next_count}
 use Rattle.nr_units.specs.Sink.{AppendsPrefix}
 use Rattle.document_stages.specs.Running.{Flushes, at_most}
 use Rattle.utf8_characters.specs.declared.table.FixedTable.{FixedTable}
-use Rattle.utf8_characters.specs.declared.table.FixedTable.TheVariants.{English, Latin, Cyrillic, Greek, Latin1}
+use Rattle.utf8_characters.specs.declared.table.FixedTable.TheVariants.{English, Latin, Cyrillic, Greek}
+use Rattle.utf8_characters.specs.declared.table.FixedTable.TheVariants.{Latin1}
 use Rattle.utf8_converter.specs.Cells.{converted, strays_of}
 use Rattle.utf8_converter.specs.Lines.{KeepsLines}
 use Rattle.utf8_converter.specs.Reading.{fed, first_reader}
@@ -13,7 +15,8 @@ use Rattle.utf8_converter.specs.declared.reader.Reader.{Reader}
 
 -- ---- what it is made of
 
--- the table, whether looks go out by sequences, and what the other sink held and how many of its puts had failed
+-- the table, whether looks go out by sequences, and what the other sink held and how many of its puts had
+-- failed
 pub record Making : Type 0 where
   pub table : FixedTable
   pub escapes : Bool
@@ -32,7 +35,8 @@ abbrev pub counted_bytes : Option (List ℕ) → List ℕ
 counted_bytes None = 0 ∷ []
 counted_bytes (Some xs) = (length xs + 1) ∷ xs
 
--- What it holds before a byte came says how it was made, and no other begins so: whatever is held after is what came.
+-- What it holds before a byte came says how it was made, and no other begins so: whatever is held after is
+-- what came.
 abbrev pub made_of : Making → List ℕ
 made_of m = number_of m.table ∷ (if m.escapes then 1 else 0) ∷ m.failed ∷ counted_bytes m.begun
 
@@ -98,7 +102,8 @@ StandsOr true m came held failed r waits strays = Broke m came held failed
 
 -- ---- how it ends
 
--- The other sink got what all bytes come to, a text for a terminal in lines of as many cells with the same characters.
+-- The other sink got what all bytes come to, a text for a terminal in lines of as many cells with the same
+-- characters.
 pub record IsShown (m : Making) (came : List ℕ) (held : Option (List ℕ)) (failed strays : ℕ) : Type 0 where
   pub went_out : Appends m.begun held (converted m.table m.escapes came)
   pub text : KeepsLines m.table m.escapes came (converted m.table m.escapes came)

@@ -1,5 +1,7 @@
 -- What goes out of bytes that stand together in whole cells.
-use Rattle.std.specs.Prelude.{◌≡◌, ℕ, ◌+◌, ◌-◌, ◌*◌, ◌/◌, ◌<◌, ◌≤◌, List, [], ◌∷◌, ◌++◌, length, take, drop, get_or, Bool, true, false, not, ◌==◌, ◌&&◌, ◌||◌, nat_lt, if◌then◌else◌, Option, None, Some}
+use Rattle.std.specs.Prelude.{◌≡◌, ℕ, ◌+◌, ◌-◌, ◌*◌, ◌/◌, ◌<◌, ◌≤◌, List, [], ◌∷◌, ◌++◌, length, take, drop}
+use Rattle.std.specs.Prelude.{get_or, Bool, true, false, not, ◌==◌, ◌&&◌, ◌||◌, nat_lt, if◌then◌else◌, Option}
+use Rattle.std.specs.Prelude.{None, Some}
 use Rattle.nr_vectors.specs.declared.cell.Look.TheVariants.{Plain}
 use Rattle.utf8_characters.specs.declared.table.FixedTable.{FixedTable}
 use Rattle.utf8_converter.specs.declared.reader.Half.{Half}
@@ -29,7 +31,8 @@ AllLow bytes = (k : ℕ) → k < length bytes → nat_lt (get_or bytes k 0) 127 
 
 -- ---- what is kept of a table
 
--- The bytes of a character are four here: those that go out at their beginning, and 64 times the number of these.
+-- The bytes of a character are four here: those that go out at their beginning, and 64 times the number of
+-- these.
 abbrev pub count_of : List ℕ → ℕ
 count_of s = get_or s 3 0 / 64
 
@@ -170,7 +173,8 @@ pub record IsChunk (s : Spelling) (r : Reader) (bytes : List ℕ) : Type 0 where
   pub way : (k : ℕ) → k < 32 → get_or bytes k 0 ≡ 8 → r.way ≡ Backspaces
   pub some : AllSpelled s.all (take 32 bytes)
 
--- a prefix of a chunk that was put up to here: it ends in a whole cell, and what is left of the chunk is taken out
+-- a prefix of a chunk that was put up to here: it ends in a whole cell, and what is left of the chunk is
+-- taken out
 pub record Cuts (table : FixedTable) (bytes : List ℕ) (to taken end : ℕ) : Type 0 where
   pub few : taken ≤ 32
   pub last : (k : ℕ) → k + 1 ≡ taken → (get_or bytes k 0 == 8) ≡ false

@@ -1,4 +1,5 @@
--- What goes out of bytes that are to come, and of the end after them, if it comes, and how many of them are dropped.
+-- What goes out of bytes that are to come, and of the end after them, if it comes, and how many of them are
+-- dropped.
 use Rattle.std.specs.Prelude.{◌≡◌, ℕ, ◌+◌, ◌<◌, ◌≤◌, List, ◌++◌, length, take, Bool, true, false}
 use Rattle.document_stages.specs.Running.{at_most}
 use Rattle.utf8_converter.specs.Reading.{ended, fed}

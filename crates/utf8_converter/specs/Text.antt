@@ -1,12 +1,14 @@
 -- What may go to a terminal.
 use Prim.Native.Char.{code}
-use Rattle.std.specs.Prelude.{◌≡◌, ℕ, List, [], ◌∷◌, ◌++◌, Bool, true, not, ◌==◌, ◌&&◌, ◌||◌, nat_lt, encode_utf8_all}
+use Rattle.std.specs.Prelude.{◌≡◌, ℕ, List, [], ◌∷◌, ◌++◌, Bool, true, not, ◌==◌, ◌&&◌, ◌||◌, nat_lt}
+use Rattle.std.specs.Prelude.{encode_utf8_all}
 use Rattle.std.specs.Str.{all_scalars}
 use Rattle.nr_vectors.specs.declared.cell.Look.{Look}
 use Rattle.utf8_characters.specs.OneCell.{is_one_cell}
 use Rattle.utf8_converter.specs.Cells.{closing, is_shown, opening}
 
--- What is written at once: a character; one after another and a backspace; the escape sequences that begin and end a look.
+-- What is written at once: a character; one after another and a backspace; the escape sequences that begin
+-- and end a look.
 pub data Part : Type 0 where
   Printed : ℕ → Part
   Overstruck : ℕ → ℕ → Part
@@ -28,8 +30,8 @@ all_characters (part ∷ parts) = characters_of part ++ all_characters parts
 abbrev pub is_printed : ℕ → Bool
 is_printed c = is_shown c || is_one_cell c
 
--- No control character but newline; a backspace only between a character that shows and itself, or `_`; escape sequences only where they are
--- asked for, and no backspace then.
+-- No control character but newline; a backspace only between a character that shows and itself, or `_`;
+-- escape sequences only where they are asked for, and no backspace then.
 abbrev pub is_clean : Bool → Part → Bool
 is_clean escapes (Printed c) = is_printed c
 is_clean escapes (Overstruck a c) =

@@ -1,6 +1,7 @@
 -- The bytes that stand for characters where they are formatted, and what becomes of them.
 use Prim.Native.Char.{code}
-use Rattle.std.specs.Prelude.{◌≡◌, ℕ, List, [], ◌∷◌, ◌++◌, Bool, true, ◌&&◌, ◌||◌, nat_lt, if◌then◌else◌, Option, None, Some, encode_utf8_all}
+use Rattle.std.specs.Prelude.{◌≡◌, ℕ, List, [], ◌∷◌, ◌++◌, Bool, true, ◌&&◌, ◌||◌, nat_lt, if◌then◌else◌}
+use Rattle.std.specs.Prelude.{Option, None, Some, encode_utf8_all}
 use Rattle.nr_vectors.specs.Cell.{is_plain}
 use Rattle.nr_vectors.specs.declared.cell.Look.{Look}
 use Rattle.nr_vectors.specs.declared.cell.Look.TheVariants.{Plain, Under, Bold}
@@ -48,7 +49,8 @@ abbrev pub all_look : List Letter → Bool
 all_look [] = true
 all_look (c ∷ text) = (is_plain c.look || nat_lt (code " ") c.character) && all_look text
 
--- What is struck over taken out, a text comes back through both tables; if it is plain, as the text itself, in UTF-8.
+-- What is struck over taken out, a text comes back through both tables; if it is plain, as the text itself,
+-- in UTF-8.
 pub record IsBack (table : FixedTable) (escapes : Bool) (text : List Letter) (bytes : List ℕ) : Type 0 where
   pub characters : characters_in table (cells table bytes) ≡ plain_text text
   pub plain : all_plain text ≡ true → converted table escapes bytes ≡ encode_utf8_all (plain_text text)

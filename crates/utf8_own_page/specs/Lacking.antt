@@ -1,5 +1,7 @@
--- The characters that a page's own table has no room for, and those that a fixed one shows by their numbers, and how they are reported.
-use Rattle.std.specs.Prelude.{◌≡◌, ℕ, ◌-◌, ◌/◌, ◌%◌, List, [], ◌∷◌, ◌++◌, length, take, flat_map, get_or, codes, decimal, Bool, ◌==◌, ◌||◌, nat_le, if◌then◌else◌}
+-- The characters that a page's own table has no room for, and those that a fixed one shows by their numbers,
+-- and how they are reported.
+use Rattle.std.specs.Prelude.{◌≡◌, ℕ, ◌-◌, ◌/◌, ◌%◌, List, [], ◌∷◌, ◌++◌, length, take, flat_map, get_or}
+use Rattle.std.specs.Prelude.{codes, decimal, Bool, ◌==◌, ◌||◌, nat_le, if◌then◌else◌}
 use Rattle.std.specs.List.{concat}
 use Rattle.std.specs.Str.{bytes_eq}
 use Rattle.preconv_converter.specs.Likeness.{likeness}

@@ -1,6 +1,7 @@
 -- Whether a page needs a table of its own, and which that is.
 use Prim.Native.Char.{code}
-use Rattle.std.specs.Prelude.{◌≡◌, ℕ, ◌+◌, ◌<◌, List, [], ◌∷◌, length, take, get_or, Bool, true, false, ◌==◌, ◌&&◌, ◌||◌, not, nat_le, nat_lt, if◌then◌else◌, is_some, Option, None, Some}
+use Rattle.std.specs.Prelude.{◌≡◌, ℕ, ◌+◌, ◌<◌, List, [], ◌∷◌, length, take, get_or, Bool, true, false, ◌==◌}
+use Rattle.std.specs.Prelude.{◌&&◌, ◌||◌, not, nat_le, nat_lt, if◌then◌else◌, is_some, Option, None, Some}
 use Rattle.utf8_characters.specs.declared.table.FixedTable as fixed
 use Rattle.utf8_characters.specs.declared.table.FixedTable.TheVariants.{English}
 use Rattle.utf8_characters.specs.Tables.{byte_of}
@@ -21,8 +22,8 @@ abbrev pub begins_number : List ℕ → Bool
 begins_number [] = false
 begins_number (b ∷ bs) = b == code "u"
 
--- After a backslash a character is named by its number (`[u0159]`), or a letter that the table of a page of ASCII lacks (`(vs`, `[*a]`,
--- `[n ah]`), in 32 bytes at most, as preconv reads names.
+-- After a backslash a character is named by its number (`[u0159]`), or a letter that the table of a page of
+-- ASCII lacks (`(vs`, `[*a]`, `[n ah]`), in 32 bytes at most, as preconv reads names.
 abbrev pub names_beyond : List ℕ → Bool
 names_beyond [] = false
 names_beyond (b ∷ bs) =

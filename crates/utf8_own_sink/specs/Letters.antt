@@ -1,7 +1,9 @@
--- Letters with their marks are printed in UTF-8, plain, underlined or bold. (groff manual, grotty; less(1); ul(1).)
+-- Letters with their marks are printed in UTF-8, plain, underlined or bold. (groff manual, grotty; less(1);
+-- ul(1).)
 use Prim.Native.Char.{code}
 use Rattle.std.specs.Char.{encode_utf8}
-use Rattle.std.specs.Prelude.{ℕ, List, [], ◌∷◌, ◌++◌, Bool, true, false, not, ◌==◌, ◌&&◌, ◌||◌, nat_le, if◌then◌else◌}
+use Rattle.std.specs.Prelude.{ℕ, List, [], ◌∷◌, ◌++◌, Bool, true, false, not, ◌==◌, ◌&&◌, ◌||◌, nat_le}
+use Rattle.std.specs.Prelude.{if◌then◌else◌}
 use Rattle.nr_vectors.specs.declared.cell.Look.{Look}
 use Rattle.nr_vectors.specs.declared.cell.Look.TheVariants.{Plain, Under, Bold}
 use Rattle.utf8_converter.specs.Cells.{closing, is_same, opening}

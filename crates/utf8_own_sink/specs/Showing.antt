@@ -1,5 +1,6 @@
 -- A sink that shows the bytes of a page's own table in another sink.
-use Rattle.std.specs.Prelude.{◌≡◌, ℕ, List, [], ◌∷◌, ◌++◌, Bool, true, false, if◌then◌else◌, Option, Result, Ok, Err}
+use Rattle.std.specs.Prelude.{◌≡◌, ℕ, List, [], ◌∷◌, ◌++◌, Bool, true, false, if◌then◌else◌, Option, Result}
+use Rattle.std.specs.Prelude.{Ok, Err}
 use Rattle.std.specs.Io.KnownBytes.{Appends}
 use Rattle.nr_units.specs.Failures.{next_count}
 use Rattle.nr_units.specs.Sink.{AppendsPrefix}
@@ -13,7 +14,8 @@ use Rattle.utf8_own_sink.specs.declared.cells.Reader.{Reader}
 
 -- ---- what it is made of
 
--- the table, whether looks go out by sequences, and what the other sink held and how many of its puts had failed
+-- the table, whether looks go out by sequences, and what the other sink held and how many of its puts had
+-- failed
 pub record Making : Type 0 where
   pub table : Characters
   pub escapes : Bool

@@ -42,7 +42,8 @@ abbrev pub ComesBack : Type 0
 ComesBack = (t : Characters) (text : List ℕ) → Good t → covers t (cells_in text) ≡ true
     → decode t (coded_text t true text) ≡ pointed (cells_in text)
 
--- Of cells and these cells with points: each stands once and in order, and before it `\(zb`, or `\(zj` before a newline, or nothing.
+-- Of cells and these cells with points: each stands once and in order, and before it `\(zb`, or `\(zj` before
+-- a newline, or nothing.
 pub data WithPoints : List Cluster → List Cluster → Type 0 where
   ends : WithPoints [] []
   same : (c : Cluster) {cs ds : List Cluster} → WithPoints cs ds → WithPoints (c ∷ cs) (c ∷ ds)

@@ -1,7 +1,8 @@
--- Where lines of East Asian text, which has no blanks, may be cut (nroff(7), Filling): by two special characters that print nothing.
--- What is read is text in the language of nroff, as preconv writes it.
+-- Where lines of East Asian text, which has no blanks, may be cut (nroff(7), Filling): by two special
+-- characters that print nothing. What is read is text in the language of nroff, as preconv writes it.
 use Prim.Native.Char.{code}
-use Rattle.std.specs.Prelude.{ℕ, List, [], ◌∷◌, Bool, true, false, not, ◌==◌, ◌&&◌, ◌||◌, if◌then◌else◌, codes}
+use Rattle.std.specs.Prelude.{ℕ, List, [], ◌∷◌, Bool, true, false, not, ◌==◌, ◌&&◌, ◌||◌, if◌then◌else◌}
+use Rattle.std.specs.Prelude.{codes}
 use Rattle.utf8_own_characters.specs.Breaking.{is_east_asian, may_break}
 use Rattle.utf8_own_stage.specs.declared.points.Line.{Line}
 use Rattle.utf8_own_stage.specs.declared.points.Line.TheVariants as lines
