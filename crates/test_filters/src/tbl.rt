@@ -233,7 +233,7 @@ static REPORT_CASES: [ReportCase; 7] = [
     ReportCase {
         words: &[b"tbl", b"-l8", b"wide"],
         status: 0,
-        lines: b"tbl: wide:4: table wider than the line\n",
+        lines: b"tbl: wide:1: table wider than the line\n",
     },
     ReportCase {
         words: &[b"tbl", b"-l9", b"wide"],
@@ -243,18 +243,18 @@ static REPORT_CASES: [ReportCase; 7] = [
     ReportCase {
         words: &[b"tbl", b"-l3", b"wide", b"none", b"wide"],
         status: 0,
-        lines: b"tbl: wide:3: table wider than the line\ntbl: wide:3: table wider than the line\n",
+        lines: b"tbl: wide:1: table wider than the line\ntbl: wide:1: table wider than the line\n",
     },
     ReportCase {
         words: &[b"tbl", b"-l1", b"wide", b"bad"],
         status: 1,
-        lines: b"tbl: wide:3: table wider than the line\ntbl: bad:3: more fields than columns\ntbl: bad:6: table without an end, from line 5\n",
+        lines: b"tbl: wide:1: table wider than the line\ntbl: bad:3: more fields than columns\ntbl: bad:6: table without an end, from line 5\n",
     },
     // The line's length is 65 where no word sets it, and the limit on a row is one on its fields together.
     ReportCase {
         words: &[b"tbl", b"long"],
         status: 0,
-        lines: b"tbl: long:3: table wider than the line\n",
+        lines: b"tbl: long:1: table wider than the line\n",
     },
     ReportCase {
         words: &[b"tbl", b"-Lr64", b"-l68", b"long"],
