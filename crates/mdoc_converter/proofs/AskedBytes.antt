@@ -9,7 +9,8 @@ use Rattle.mdoc_layout.specs.declared.page.Inside.TheVariants as insides
 use Rattle.mdoc_layout.specs.declared.page.Page.{Page}
 use Rattle.mdoc_layout.specs.declared.page.Scan.{Scan}
 use Rattle.mdoc_layout.specs.declared.page.Scan.TheVariants as scans
-use Rattle.mdoc_words.specs.Calls.{has_cells, is_item, is_none, is_pending, leaves, tab, takes_no_more, with_scan}
+use Rattle.mdoc_words.specs.Calls.{has_cells, is_item, is_pending, leaves, tab}
+use Rattle.mdoc_words.specs.Rules.{is_none, takes_no_more, with_scan}
 use Rattle.mdoc_words.specs.Escaping.{escape_then}
 use Rattle.mdoc_words.specs.Keeping.{after_name, comment, continued, ends_escape, ends_word, in_named, in_word_of, keep, keep_begun, keep_blank, keep_byte, keep_quote, keeping, turns, whole_for}
 use Rattle.mdoc_layout.specs.Columns.{is_column}

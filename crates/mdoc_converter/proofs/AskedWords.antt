@@ -15,7 +15,9 @@ use Rattle.mdoc_layout.specs.declared.page.Scan.{Scan}
 use Rattle.mdoc_layout.specs.declared.page.Scan.TheVariants as scans
 use Rattle.mdoc_layout.specs.declared.page.Wanted.{Wanted}
 use Rattle.mdoc_layout.specs.declared.page.Wanted.TheVariants as wanteds
-use Rattle.mdoc_words.specs.Calls.{called_by, is_none, with_scan}
+use Rattle.mdoc_words.specs.Calls.{called_by}
+use Rattle.mdoc_words.specs.Rules.{is_none, with_scan}
+use Rattle.mdoc_words.specs.Words.{ends_long, heading_calls, parsed}
 use Rattle.mdoc_words.specs.Escaping.{escape_then}
 use Rattle.mdoc_words.specs.Keeping.{after_prefix, ends_in_hyphen, has_dashes, in_named, is_titling, keep, keep_begun, keep_byte, keep_escape, keep_unshown, keeping, looks_up, whole_for, widens, wider, within, within_escape}
 use Rattle.mdoc_layout.specs.Laying.{with_lay}
@@ -26,7 +28,6 @@ use Rattle.mdoc_layout.specs.Seeing.{Offered, and_taken, left, none, offered, ta
 use Rattle.mdoc_converter.specs.Reading.{State, said}
 use Rattle.mdoc_converter.specs.Saying.{part_of, parts_seen, words_of}
 use Rattle.mdoc_converter.specs.Scanning.{offer, offer_at, offer_whole, offer_whole_at}
-use Rattle.mdoc_words.specs.Words.{ends_long, heading_calls, parsed}
 use Rattle.mdoc_converter.specs.WrittenLines.{asks}
 use Rattle.mdoc_converter.proofs.Offering.{with_page, Leads, Takes, leads_by, takes_by}
 use Rattle.mdoc_converter.proofs.Outcomes.{is_quiet, never, Lays, quiet-page}

@@ -19,13 +19,15 @@ use Rattle.mdoc_layout.specs.declared.page.Page.{Page}
 use Rattle.mdoc_layout.specs.declared.page.Scan.{Scan}
 use Rattle.mdoc_layout.specs.declared.page.Scan.TheVariants as scans
 use Rattle.mdoc_layout.specs.Blocks.{block_opens, display_begins_of, fresh_block, indent, inner, literal, space, stops, with_literal}
-use Rattle.mdoc_words.specs.Calls.{is_pending, is_pending_from, is_none, leaves, with_scan}
+use Rattle.mdoc_words.specs.Calls.{is_pending, leaves}
+use Rattle.mdoc_words.specs.Macros.{macro_of}
+use Rattle.mdoc_words.specs.Meanings.{is_pending_from}
+use Rattle.mdoc_words.specs.Rules.{is_none, with_scan}
 use Rattle.mdoc_layout.specs.Columns.{gap, is_column}
 use Rattle.mdoc_words.specs.Escaping.{escape_then}
 use Rattle.mdoc_words.specs.Keeping.{ends_word, in_named}
 use Rattle.mdoc_layout.specs.Laying.{with_lay}
 use Rattle.mdoc_converter.specs.Lines.{begins, closes_last, end_of, ended_seen, ends, last_act, line_ends, turned}
-use Rattle.mdoc_words.specs.Macros.{macro_of}
 use Rattle.mdoc_layout.specs.Seeing.{Offered, and_taken, left, none, offered, three, two}
 use Rattle.mdoc_converter.specs.Reading.{State, refused, said, stacked}
 use Rattle.mdoc_converter.specs.Saying.{part_of, parts_of, words_of}

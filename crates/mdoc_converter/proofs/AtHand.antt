@@ -10,7 +10,7 @@ use Rattle.mdoc_converter.specs.declared.pending.Pending.TheVariants.{Nothing}
 use Rattle.mdoc_layout.specs.declared.page.Block.{Block}
 use Rattle.mdoc_converter.specs.declared.reader.Reader.{Reader}
 use Rattle.mdoc_converter.specs.AtHand.{before_newline, passing, passing_by, passing_in, Passes}
-use Rattle.mdoc_words.specs.Calls.{with_scan}
+use Rattle.mdoc_words.specs.Rules.{with_scan}
 use Rattle.mdoc_layout.specs.LayingOut.{lay_out}
 use Rattle.mdoc_converter.specs.Reading.{State, Emitted, state, emitted, preceded, then_emitted, said, once, heard, read, fed}
 use Rattle.mdoc_converter.specs.Scanning.{prefix_then, is_blank, offer, offer_whole, passes_to}

@@ -14,7 +14,7 @@ use Rattle.mdoc_layout.specs.declared.page.Last.{Last}
 use Rattle.mdoc_layout.specs.declared.page.Last.TheVariants as lasts
 use Rattle.mdoc_layout.specs.declared.page.Page.{Page}
 use Rattle.mdoc_layout.specs.Blocks.{before_item, counted_item, counts, inner, is_bare, is_diagnosis, is_list, item, item_head, item_head_of, line_opens, new_item, plainly, space, stands_close, taking}
-use Rattle.mdoc_words.specs.Calls.{is_synopsis}
+use Rattle.mdoc_words.specs.Rules.{is_synopsis}
 use Rattle.mdoc_converter.specs.Lines.{after, begins, book, function_line, is_see_also, include_line, line_before, stands_after, synopsis_line}
 use Rattle.mdoc_layout.specs.Seeing.{none}
 use Rattle.mdoc_converter.specs.WrittenLines.{heads_words, Usual, way_of}

@@ -9,7 +9,8 @@ use Rattle.mdoc_layout.specs.declared.acts.Text.TheVariants as texts
 use Rattle.mdoc_layout.specs.declared.page.Page.{Page}
 use Rattle.mdoc_layout.specs.declared.page.Scan.{Scan}
 use Rattle.mdoc_layout.specs.declared.page.Scan.TheVariants as scans
-use Rattle.mdoc_words.specs.Calls.{is_pending, is_none, leaves}
+use Rattle.mdoc_words.specs.Calls.{is_pending, leaves}
+use Rattle.mdoc_words.specs.Rules.{is_none}
 use Rattle.mdoc_layout.specs.Laying.{Laid, laid, then_laid}
 use Rattle.mdoc_layout.specs.LayingOut.{lay_out}
 use Rattle.mdoc_converter.specs.Lines.{closes_last, ends_joined, line_ends}

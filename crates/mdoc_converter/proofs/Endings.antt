@@ -17,7 +17,8 @@ use Rattle.mdoc_layout.specs.declared.page.Page.{Page}
 use Rattle.mdoc_layout.specs.declared.page.Scan.{Scan}
 use Rattle.mdoc_layout.specs.declared.page.Scan.TheVariants as scans
 use Rattle.mdoc_layout.specs.Blocks.{is_tagged, item_ends_of, tag_ends, tag_ends_of, tag_width}
-use Rattle.mdoc_words.specs.Calls.{is_pending, is_none, leaves, with_scan}
+use Rattle.mdoc_words.specs.Calls.{is_pending, leaves}
+use Rattle.mdoc_words.specs.Rules.{is_none, with_scan}
 use Rattle.mdoc_layout.specs.Laying.{is_middle, with_lay}
 use Rattle.mdoc_layout.specs.LayingOut.{lay_out}
 use Rattle.mdoc_converter.specs.Lines.{closes_last, end_of, ended_seen, ends, ends_joined, last_act, line_ends}

@@ -13,18 +13,20 @@ use Rattle.mdoc_layout.specs.declared.page.Page.{Page}
 use Rattle.mdoc_layout.specs.declared.page.Scan.{Scan}
 use Rattle.mdoc_layout.specs.declared.page.Scan.TheVariants as scans
 use Rattle.mdoc_layout.specs.declared.seen.Seen.{Seen}
-use Rattle.mdoc_words.specs.Calls.{called_by, calls, encloses_address, is_pending, is_pending_from, is_none, with_scan}
+use Rattle.mdoc_words.specs.Calls.{called_by, calls, encloses_address, is_pending}
+use Rattle.mdoc_words.specs.Macros.{letters_macro}
+use Rattle.mdoc_words.specs.Meanings.{is_pending_from}
+use Rattle.mdoc_words.specs.Rules.{is_none, with_scan}
+use Rattle.mdoc_words.specs.Words.{closing_mark, ends_long, heading_calls, marked_or, parsed, read_or_called, taken_after}
 use Rattle.mdoc_words.specs.Keeping.{in_named, is_whole, whole_for}
 use Rattle.mdoc_layout.specs.LayingOut.{lay_out}
 use Rattle.mdoc_converter.specs.Lines.{begins, in_section, is_page}
-use Rattle.mdoc_words.specs.Macros.{letters_macro}
 use Rattle.mdoc_words.specs.Options.{enters, is_heading, option, option_for, option_word, reads_for}
 use Rattle.mdoc_converter.specs.Reading.{State, said, stacked}
 use Rattle.mdoc_converter.specs.Saying.{parts_of, words_of}
 use Rattle.mdoc_converter.specs.Scanning.{offer, offer_at, offer_whole, offer_whole_at}
 use Rattle.mdoc_layout.specs.Seeing.{Offered, offered, left, two, three, with_stack}
 use Rattle.mdoc_converter.specs.WordLaws.{reads_at, HeadingsAreSaid}
-use Rattle.mdoc_words.specs.Words.{closing_mark, ends_long, heading_calls, marked_or, parsed, read_or_called, taken_after}
 use Rattle.mdoc_converter.specs.WrittenLines.{Way, Usual, Headed, way_of, way_after, way_headed, unless_called, none_or, prints_words, names_no_string, Letter, kept, written, Word, Bare, Quoted, is_first, headed, are_written, after_each, line_of, printed_as, written_word}
 use Rattle.mdoc_converter.proofs.After.{after, after-append, next-state, Fresh}
 use Rattle.mdoc_converter.proofs.Escapes.{line-text}

@@ -11,14 +11,14 @@ use Rattle.mdoc_layout.specs.declared.page.Inside.TheVariants as insides
 use Rattle.mdoc_layout.specs.declared.page.Page.{Page}
 use Rattle.mdoc_layout.specs.declared.page.Scan.{Scan}
 use Rattle.mdoc_layout.specs.declared.page.Scan.TheVariants as scans
-use Rattle.mdoc_words.specs.Calls.{is_none, with_scan}
+use Rattle.mdoc_words.specs.Rules.{is_none, with_scan}
+use Rattle.mdoc_words.specs.Words.{goes_to}
 use Rattle.mdoc_words.specs.Escaping.{escape_then}
 use Rattle.mdoc_words.specs.Keeping.{comment, continued, ends_escape, ends_in_hyphen, has_dashes, in_named, in_word_of, is_whole, keep, keep_begun, keep_blank, keep_byte, keep_escape, keep_quote, looks_up, turns, within, within_escape}
 use Rattle.mdoc_words.specs.Options.{is_shown}
 use Rattle.mdoc_converter.specs.Reading.{State}
 use Rattle.mdoc_converter.specs.Scanning.{offer, offer_at}
 use Rattle.mdoc_layout.specs.Seeing.{Offered, offered, left, taken}
-use Rattle.mdoc_words.specs.Words.{goes_to}
 use Rattle.mdoc_converter.specs.WrittenLines.{Way, reached_after, holds_hyphen, Plain, is_escaped, is_held, is_letter, kept_first, kept_letter}
 use Rattle.mdoc_converter.proofs.Escapes.{and_left, and_right, same_byte}
 use Rattle.mdoc_converter.proofs.LongWords.{Flushed, flushed}

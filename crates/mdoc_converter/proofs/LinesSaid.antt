@@ -7,10 +7,11 @@ use Rattle.mdoc_layout.specs.declared.page.Page.{Page}
 use Rattle.mdoc_layout.specs.declared.page.Scan.TheVariants as scans
 use Rattle.mdoc_converter.specs.declared.pending.Pending.{Pending}
 use Rattle.mdoc_converter.specs.declared.pending.Pending.TheVariants.{Nothing}
-use Rattle.mdoc_words.specs.Calls.{is_item, with_scan}
+use Rattle.mdoc_words.specs.Calls.{is_item}
+use Rattle.mdoc_words.specs.Macros.{macro_of}
+use Rattle.mdoc_words.specs.Rules.{with_scan}
 use Rattle.mdoc_layout.specs.Blocks.{is_diagnosis}
 use Rattle.mdoc_converter.specs.Lines.{calls_none}
-use Rattle.mdoc_words.specs.Macros.{macro_of}
 use Rattle.mdoc_converter.specs.Reading.{State, fed}
 use Rattle.mdoc_converter.specs.Saying.{parts_of, text_of, words_of}
 use Rattle.mdoc_converter.specs.WordLaws.{begins_block, has_room, opens_some, printed_lines, reads_at, LinesAreSaid}

@@ -11,7 +11,11 @@ use Rattle.mdoc_layout.specs.declared.page.Inside.{Inside}
 use Rattle.mdoc_layout.specs.declared.page.Page.{Page}
 use Rattle.mdoc_layout.specs.declared.page.Scan.{Scan}
 use Rattle.mdoc_layout.specs.declared.page.Scan.TheVariants as scans
-use Rattle.mdoc_words.specs.Calls.{is_enclosure_pending, is_none, is_opened_by, leaves, seen_with, with_scan}
+use Rattle.mdoc_words.specs.Calls.{is_enclosure_pending, leaves}
+use Rattle.mdoc_words.specs.Meanings.{is_opened_by, taken_by}
+use Rattle.mdoc_words.specs.Rules.{is_none, seen_with, with_scan}
+use Rattle.mdoc_words.specs.Taking.{argument, some_taken, taken_word}
+use Rattle.mdoc_words.specs.Words.{goes_on, goes_to, long_begins, prefixed}
 use Rattle.mdoc_words.specs.Keeping.{is_whole, whole_for}
 use Rattle.mdoc_layout.specs.Laying.{was_put, with_lay, without_marks}
 use Rattle.mdoc_layout.specs.LayingOut.{lay_out}
@@ -19,8 +23,6 @@ use Rattle.mdoc_converter.specs.Reading.{State, said}
 use Rattle.mdoc_converter.specs.Scanning.{offer, offer_at, offer_whole, offer_whole_at}
 use Rattle.mdoc_layout.specs.Seeing.{Offered, offered, left}
 use Rattle.mdoc_words.specs.Options.{is_heading}
-use Rattle.mdoc_words.specs.Taking.{argument, some_taken, taken_alone_by, taken_by, taken_word}
-use Rattle.mdoc_words.specs.Words.{prefixed, goes_on, goes_to, long_begins}
 use Rattle.mdoc_converter.specs.WrittenLines.{Way, Usual, Titled, Authors, Headed, said_of, way_of}
 use Rattle.mdoc_converter.proofs.Escapes.{and_left}
 use Rattle.mdoc_converter.proofs.Offering.{with_page, Leads, then_leads, leads_by}
@@ -226,7 +228,7 @@ unfolding begun_by argument_by heading_page taken_word
 heading_begins inside p e =
     let q = with_scan scans.Between (prefixed p) in
     let shape = λ (m : Offered). offered (with_scan (scans.Goes inside) (some_taken m.page)) m.seen in
-    ap (λ (m : Macro). shape (taken_by m q)) e ∙ ap (λ (m : Macro). shape (taken_alone_by m q)) e
+    ap (λ (m : Macro). shape (taken_by m q)) e
 
 heading_pending : (p : Page) → p.call.taker ≡ macros.Section → is_enclosure_pending p ≡ false
 heading_pending p e = ap (λ (m : Macro). is_opened_by m && not p.call.some) e

@@ -13,12 +13,13 @@ use Rattle.mdoc_layout.specs.declared.page.Page.{Page}
 use Rattle.mdoc_layout.specs.declared.page.Scan.{Scan}
 use Rattle.mdoc_layout.specs.declared.page.Scan.TheVariants as scans
 use Rattle.mdoc_converter.specs.declared.pending.Pending.TheVariants.{Nothing}
-use Rattle.mdoc_words.specs.Calls.{called_by, is_item, with_scan}
+use Rattle.mdoc_words.specs.Calls.{called_by, is_item}
+use Rattle.mdoc_words.specs.Macros.{macro_of}
+use Rattle.mdoc_words.specs.Rules.{with_scan}
 use Rattle.mdoc_words.specs.Keeping.{ends_word, in_named, keep_byte}
 use Rattle.mdoc_layout.specs.LayingOut.{lay_out}
 use Rattle.mdoc_layout.specs.Blocks.{is_diagnosis, item}
 use Rattle.mdoc_converter.specs.Lines.{begins, begins_or_other, call_of, calls_none, named_line}
-use Rattle.mdoc_words.specs.Macros.{macro_of}
 use Rattle.mdoc_converter.specs.Reading.{State, said}
 use Rattle.mdoc_converter.specs.Saying.{parts_of, words_of}
 use Rattle.mdoc_converter.specs.Scanning.{offer, offer_at, name_begins}

@@ -7,15 +7,16 @@ use Rattle.mdoc_layout.specs.declared.macros.Macro.TheVariants as macros
 use Rattle.mdoc_layout.specs.declared.page.Page.{Page}
 use Rattle.mdoc_layout.specs.declared.page.Scan.{Scan}
 use Rattle.mdoc_layout.specs.declared.page.Scan.TheVariants as scans
-use Rattle.mdoc_words.specs.Calls.{is_pending, is_pending_from, is_enclosure_pending, is_opened_by, leaves, with_call, with_scan}
+use Rattle.mdoc_words.specs.Calls.{is_enclosure_pending, is_pending, leaves}
+use Rattle.mdoc_words.specs.Meanings.{begins_anew, is_opened_by, is_pending_from}
+use Rattle.mdoc_words.specs.Rules.{prefix, with_call, with_scan}
+use Rattle.mdoc_words.specs.Words.{closing_mark, holding, is_closing, is_prefix, is_text, mark, mark_as_word, marked_or, most_marks, parsed, stands, taken_after_mark, taken_by_same, takes_marks}
 use Rattle.mdoc_layout.specs.Laying.{with_lay}
 use Rattle.mdoc_layout.specs.LayingOut.{lay_out}
 use Rattle.mdoc_converter.specs.Reading.{State, said}
 use Rattle.mdoc_converter.specs.Scanning.{offer}
 use Rattle.mdoc_layout.specs.Seeing.{Offered, offered, left}
-use Rattle.mdoc_words.specs.Taking.{prefix}
 use Rattle.mdoc_converter.specs.WrittenLines.{Usual, way_of}
-use Rattle.mdoc_words.specs.Words.{begins_anew, closing_mark, holding, is_closing, is_prefix, is_text, mark, mark_as_word, marked_or, most_marks, parsed, stands, taken_after_mark, takes_marks, taken_by_same}
 use Rattle.mdoc_converter.proofs.Escapes.{and_left, is_not}
 use Rattle.mdoc_converter.proofs.Given.{Whole, whole_of, whole_after, whole_within, given_offered}
 use Rattle.mdoc_converter.proofs.Offering.{with_page, leads_by}
@@ -164,6 +165,7 @@ anew_pending macros.Argument named h = refl
 anew_pending macros.Path named h = refl
 anew_pending macros.Mail named h = refl
 anew_pending macros.Name named h = refl
+anew_pending (macros.Stands system) named h = refl
 anew_pending m named h = never h
 
 anew_opened : (m : Macro) → begins_anew m ≡ true → is_opened_by m ≡ false
@@ -172,6 +174,7 @@ anew_opened macros.Argument h = refl
 anew_opened macros.Path h = refl
 anew_opened macros.Mail h = refl
 anew_opened macros.Name h = refl
+anew_opened (macros.Stands system) h = refl
 anew_opened m h = never h
 
 anew_out : (p : Page) → takes_plain p.call.taker ≡ true → way_of p.call.taker ≡ Usual → Out (taken_by_same p.call.taker (leaves p)) p []

@@ -4,7 +4,7 @@ use Rattle.mdoc_layout.specs.declared.acts.Act.{Act}
 use Rattle.mdoc_layout.specs.declared.acts.Stack.{Stack}
 use Rattle.mdoc_layout.specs.declared.page.Page.{Page}
 use Rattle.mdoc_layout.specs.declared.page.Scan.{Scan}
-use Rattle.mdoc_words.specs.Calls.{with_scan}
+use Rattle.mdoc_words.specs.Rules.{with_scan}
 use Rattle.mdoc_converter.specs.Reading.{State, Emitted, emitted, preceded, said, once, once_seen, stacked, heard_in, heard}
 use Rattle.mdoc_converter.specs.Saying.{parts_seen, parts_in, parts_at, words_of}
 use Rattle.mdoc_converter.specs.Scanning.{offer}

@@ -9,7 +9,7 @@ use Rattle.mdoc_layout.specs.declared.page.Page.{Page}
 use Rattle.mdoc_layout.specs.declared.page.Scan.{Scan}
 use Rattle.mdoc_layout.specs.declared.page.Scan.TheVariants as scans
 use Rattle.mdoc_layout.specs.declared.seen.Seen.{Seen}
-use Rattle.mdoc_words.specs.Calls.{with_scan}
+use Rattle.mdoc_words.specs.Rules.{with_scan}
 use Rattle.mdoc_layout.specs.LayingOut.{lay_out}
 use Rattle.mdoc_converter.specs.Reading.{State, said}
 use Rattle.mdoc_converter.specs.Saying.{parts_of, parts_seen, words_of}

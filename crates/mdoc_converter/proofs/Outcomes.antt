@@ -15,7 +15,9 @@ use Rattle.mdoc_layout.specs.declared.page.Call.{Call}
 use Rattle.mdoc_layout.specs.declared.page.Lay.{Lay}
 use Rattle.mdoc_layout.specs.declared.page.Page.{Page}
 use Rattle.mdoc_layout.specs.declared.seen.Seen.{Seen}
-use Rattle.mdoc_words.specs.Calls.{is_synopsis, heads_line, after_name, takes_no_more, pending_from, pending, leaves, function_closes}
+use Rattle.mdoc_words.specs.Calls.{leaves, pending}
+use Rattle.mdoc_words.specs.Meanings.{pending_from}
+use Rattle.mdoc_words.specs.Rules.{after_name, function_closes, heads_line, is_synopsis, takes_no_more}
 use Rattle.mdoc_layout.specs.Laying.{laid, with_lay}
 use Rattle.mdoc_layout.specs.LayingOut.{lay_out}
 use Rattle.mdoc_words.specs.Options.{is_heading, reads_for}

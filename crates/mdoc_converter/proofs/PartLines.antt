@@ -6,7 +6,7 @@ use Rattle.mdoc_layout.specs.declared.acts.Act.TheVariants as acts
 use Rattle.mdoc_layout.specs.declared.page.Call.{Call}
 use Rattle.mdoc_layout.specs.declared.page.Page.{Page}
 use Rattle.mdoc_layout.specs.declared.page.Scan.TheVariants as scans
-use Rattle.mdoc_words.specs.Calls.{with_place}
+use Rattle.mdoc_words.specs.Rules.{with_place}
 use Rattle.mdoc_layout.specs.Laying.{Laid, laid, put, is_joined, was_put}
 use Rattle.mdoc_layout.specs.LayingOut.{lay_out}
 use Rattle.mdoc_converter.specs.Lines.{book_ends, part_begins}

@@ -12,18 +12,19 @@ use Rattle.mdoc_layout.specs.declared.page.Following.TheVariants as followings
 use Rattle.mdoc_layout.specs.declared.page.Page.{Page}
 use Rattle.mdoc_layout.specs.declared.page.Scan.{Scan}
 use Rattle.mdoc_layout.specs.declared.page.Scan.TheVariants as scans
-use Rattle.mdoc_words.specs.Calls.{callable, called_by, is_enclosure_pending, is_none, with_scan}
+use Rattle.mdoc_words.specs.Calls.{callable, called_by, is_enclosure_pending}
+use Rattle.mdoc_words.specs.Macros.{macro_of}
+use Rattle.mdoc_words.specs.Rules.{is_none, with_scan}
+use Rattle.mdoc_words.specs.Taking.{argument, taken_word}
+use Rattle.mdoc_words.specs.Words.{after_long, closing_mark, ends_long, heading_calls, marked_or, parsed, read_or_called, taken_after, unmarked}
 use Rattle.mdoc_words.specs.Keeping.{in_named, keep_quote}
 use Rattle.mdoc_layout.specs.LayingOut.{lay_out}
-use Rattle.mdoc_words.specs.Macros.{macro_of}
 use Rattle.mdoc_words.specs.Options.{option, reads_for}
 use Rattle.mdoc_converter.specs.Reading.{State, said}
 use Rattle.mdoc_converter.specs.Saying.{parts_of, words_of}
 use Rattle.mdoc_converter.specs.Scanning.{offer, offer_at, offer_whole, offer_whole_at}
 use Rattle.mdoc_layout.specs.Seeing.{Offered, offered, left}
-use Rattle.mdoc_words.specs.Taking.{argument, taken_word}
 use Rattle.mdoc_converter.specs.WordLaws.{reads_at, WordsAreSaid}
-use Rattle.mdoc_words.specs.Words.{after_long, closing_mark, ends_long, heading_calls, marked_or, parsed, read_or_called, taken_after, unmarked}
 use Rattle.mdoc_converter.specs.WrittenLines.{Way, is_mute, said_of, unless_called, way_of, way_then, each, names_no_string, are_letters, is_plain, is_word, kept, written, heads_words, Word, Bare, Quoted, are_written, after_each, line_of, printed_as, none_or, prints_words}
 use Rattle.mdoc_converter.proofs.Endings.{ends_quiet, heads_end}
 use Rattle.mdoc_converter.proofs.Escapes.{and_left, and_right, both, line-text}

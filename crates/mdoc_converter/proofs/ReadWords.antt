@@ -8,14 +8,15 @@ use Rattle.mdoc_layout.specs.declared.page.Escape.{Escape as Reached}
 use Rattle.mdoc_layout.specs.declared.page.Page.{Page}
 use Rattle.mdoc_layout.specs.declared.page.Scan.{Scan}
 use Rattle.mdoc_layout.specs.declared.page.Scan.TheVariants as scans
-use Rattle.mdoc_words.specs.Calls.{is_none, tab, with_scan}
+use Rattle.mdoc_words.specs.Calls.{tab}
+use Rattle.mdoc_words.specs.Rules.{is_none, with_scan}
+use Rattle.mdoc_words.specs.Words.{goes_to}
 use Rattle.mdoc_words.specs.Keeping.{ends_in_hyphen, ends_word, in_named, in_word_of, is_whole, within_escape, word_begins}
 use Rattle.mdoc_layout.specs.LayingOut.{lay_out}
 use Rattle.mdoc_converter.specs.Reading.{State, said}
 use Rattle.mdoc_converter.specs.Saying.{parts_of, words_of}
 use Rattle.mdoc_converter.specs.Scanning.{between, offer, offer_at}
 use Rattle.mdoc_layout.specs.Seeing.{Offered, offered, left, taken}
-use Rattle.mdoc_words.specs.Words.{goes_to}
 use Rattle.mdoc_converter.specs.WrittenLines.{Letter, Plain, Escape, reached_after, is_hyphen, is_letter, are_letters, bytes_of, kept, kept_first, kept_in, kept_letter, written}
 use Rattle.mdoc_converter.proofs.Escapes.{and_left, and_right, same_byte}
 use Rattle.mdoc_converter.proofs.After.{after, after-append, next-state}

@@ -4,7 +4,8 @@ use Rattle.mdoc_layout.specs.declared.acts.Act.TheVariants as acts
 use Rattle.mdoc_layout.specs.declared.page.Lay.{Lay}
 use Rattle.mdoc_layout.specs.declared.page.Page.{Page}
 use Rattle.mdoc_layout.specs.declared.page.Scan.{Scan}
-use Rattle.mdoc_words.specs.Calls.{pending, is_pending, is_enclosure_pending, leaves, takes_no_more}
+use Rattle.mdoc_words.specs.Calls.{is_enclosure_pending, is_pending, leaves, pending}
+use Rattle.mdoc_words.specs.Rules.{takes_no_more}
 use Rattle.mdoc_layout.specs.Laying.{with_lay, was_put, without_marks}
 use Rattle.mdoc_layout.specs.LayingOut.{lay_out}
 use Rattle.mdoc_converter.specs.Reading.{State, said}

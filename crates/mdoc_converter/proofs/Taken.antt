@@ -19,10 +19,12 @@ use Rattle.mdoc_layout.specs.declared.page.Page.{Page}
 use Rattle.mdoc_layout.specs.declared.page.Parameters.TheVariants.{First, Further}
 use Rattle.mdoc_layout.specs.declared.page.Split.{Split}
 use Rattle.mdoc_layout.specs.declared.page.Split.TheVariants.{Never, Next, Always}
-use Rattle.mdoc_words.specs.Calls.{with_call, with_place, is_nothing, is_none, heads_line, after_name, takes_no_more, called}
+use Rattle.mdoc_words.specs.Calls.{called}
 use Rattle.mdoc_words.specs.Macros.{part_font}
+use Rattle.mdoc_words.specs.Meanings.{is_nothing, taken_by}
+use Rattle.mdoc_words.specs.Rules.{after_first, after_later, after_name, author, author_line_by, function, function_begins, heads_line, include, is_conditional, is_first, is_listed, is_none, is_outside, keeps_link, link, listing, named, named_author, named_under_condition, naming, parameter, prefix, reference, splits, takes_no_more, with_call, with_place}
+use Rattle.mdoc_words.specs.Taking.{taken_word}
 use Rattle.mdoc_layout.specs.Seeing.{Offered, offered, three}
-use Rattle.mdoc_words.specs.Taking.{author, author_line_by, named_author, splits, after_later, include, keeps_link, link, prefix, taken_by, taken_word, taken_alone_by, naming, named, named_under_condition, is_conditional, parameter, is_outside, is_first, is_listed, after_first, listing, reference, function_begins, function}
 use Rattle.mdoc_layout.specs.Texts.{closer}
 use Rattle.mdoc_converter.specs.WrittenLines.{Authors, Usual, said_of, way_of}
 use Rattle.mdoc_converter.proofs.Outcomes.{is_quiet, of_word, never, takes_plain, Keeps, keeps_if, keeps_no_more, Out, out, out_if, out_seen_if, out_act_if, same_page, function_closes_out}
@@ -236,25 +238,6 @@ unfolding takes_plain
 release_kept q u =
     record { scan = refl; word = refl; marks = refl; few = λ l. l; going = refl; comment = refl; line = refl; fits = refl; way = sym u }
 
-alone_out : (m : Macro) (q : Page) → takes_plain m ≡ true → takes_plain q.call.taker ≡ true → way_of q.call.taker ≡ Usual → Out (taken_alone_by m q) q q.word
-unfolding is_quiet of_word takes_plain
-alone_out macros.Att q h f u = never h
-alone_out macros.Standard q h f u = never h
-alone_out macros.Library q h f u = never h
-alone_out macros.Bsd q h f u =
-    out _ q (acts.Word Roman) (acts.Close texts.Bsd) acts.Nothing q.word refl refl refl (append-nil q.word) (release_kept q u)
-alone_out macros.BsdRelease q h f u = out _ q acts.Release acts.Nothing acts.Nothing q.word refl refl refl (append-nil q.word) (no_more q f u)
-alone_out macros.Prefix q h f u = prefix_out q f u
-alone_out macros.OwnOpens q h f u = prefix_out q f u
-alone_out macros.OwnCloses q h f u = out _ q (acts.Joined Roman) acts.Nothing acts.Nothing q.word refl refl refl (append-nil q.word) (no_more q f u)
-alone_out macros.FunctionOpens q h f u = function_begins_out (with_place (record q.place { parameters = First }) (takes_no_more q)) q (opens_kept q f u)
-alone_out macros.Include q h f u = include_out q f u
-alone_out m q h f u = said_in Roman q q (same_page q f)
-
-alone_is : (m : Macro) (q : Page) → q.call.taker ≡ m → takes_plain m ≡ true → takes_plain q.call.taker ≡ true → way_of q.call.taker ≡ Usual
-    → Out (taken_alone_by q.call.taker q) q q.word
-alone_is m q e h f u = subst (λ (k : Macro). Out (taken_alone_by k q) q q.word) (sym e) (alone_out m q h f u)
-
 -- ---- authors
 
 split_kept : (split : Split) (q : Page) → takes_plain q.call.taker ≡ true → Keeps q (with_place (record q.place { split = split }) q)
@@ -319,14 +302,26 @@ taken_by_out macros.Parameter q e h f = parameter_out q f
 taken_by_out macros.Reference q e h f = reference_out q f (usual_is macros.Reference q e refl)
 taken_by_out macros.Author q e h f = author_out q f
 taken_by_out macros.Section q e h f = never h
-taken_by_out macros.Describes q e h f = subst (λ (k : Macro). Out (taken_alone_by k q) q q.word) (sym e) (said_in Roman q q (same_page q f))
-taken_by_out macros.Subsection q e h f = subst (λ (k : Macro). Out (taken_alone_by k q) q q.word) (sym e) (said_in Roman q q (same_page q f))
 taken_by_out macros.Link q e h f = link_out q f (usual_is macros.Link q e refl)
 taken_by_out macros.Function q e h f = function_out q f
 taken_by_out (macros.Stands system) q e h f =
     out _ q (acts.Text (texts.System system)) (acts.Close texts.FixedSpace) (acts.Joined Roman) q.word refl refl refl (append-nil q.word)
     (no_more q f (usual_is (macros.Stands system) q e refl))
-taken_by_out m q e h f = alone_is m q e h f (usual_is m q e refl)
+taken_by_out macros.Att q e h f = never h
+taken_by_out macros.Standard q e h f = never h
+taken_by_out macros.Library q e h f = never h
+taken_by_out macros.Bsd q e h f =
+    out _ q (acts.Word Roman) (acts.Close texts.Bsd) acts.Nothing q.word refl refl refl (append-nil q.word) (release_kept q (usual_is macros.Bsd q e refl))
+taken_by_out macros.BsdRelease q e h f =
+    out _ q acts.Release acts.Nothing acts.Nothing q.word refl refl refl (append-nil q.word) (no_more q f (usual_is macros.BsdRelease q e refl))
+taken_by_out macros.Prefix q e h f = prefix_out q f (usual_is macros.Prefix q e refl)
+taken_by_out macros.OwnOpens q e h f = prefix_out q f (usual_is macros.OwnOpens q e refl)
+taken_by_out macros.OwnCloses q e h f =
+    out _ q (acts.Joined Roman) acts.Nothing acts.Nothing q.word refl refl refl (append-nil q.word) (no_more q f (usual_is macros.OwnCloses q e refl))
+taken_by_out macros.FunctionOpens q e h f =
+    function_begins_out (with_place (record q.place { parameters = First }) (takes_no_more q)) q (opens_kept q f (usual_is macros.FunctionOpens q e refl))
+taken_by_out macros.Include q e h f = include_out q f (usual_is macros.Include q e refl)
+taken_by_out m q e h f = said_in Roman q q (same_page q f)
 
 pub taken_out : (q : Page) → takes_plain q.call.taker ≡ true → Out (taken_word q) q (said_of (way_of q.call.taker) q.word)
 unfolding taken_word

@@ -10,7 +10,7 @@ use Rattle.mdoc_layout.specs.declared.page.Before.TheVariants as befores
 use Rattle.mdoc_layout.specs.declared.page.Page.{Page}
 use Rattle.mdoc_layout.specs.declared.page.Scan.{Scan}
 use Rattle.mdoc_layout.specs.declared.page.Scan.TheVariants as scans
-use Rattle.mdoc_words.specs.Calls.{with_scan}
+use Rattle.mdoc_words.specs.Rules.{with_scan}
 use Rattle.mdoc_words.specs.Keeping.{ends_word}
 use Rattle.mdoc_layout.specs.Columns.{has_rows}
 use Rattle.mdoc_layout.specs.Laying.{is_control, is_middle, with_lay}

@@ -10,10 +10,11 @@ use Rattle.mdoc_layout.specs.declared.page.Parameters.TheVariants.{Outside, Firs
 use Rattle.mdoc_layout.specs.declared.page.Place.{Place}
 use Rattle.mdoc_layout.specs.declared.page.Split.{Split}
 use Rattle.mdoc_layout.specs.declared.page.Split.TheVariants.{Never, Next, Always}
-use Rattle.mdoc_words.specs.Calls.{heads_line, is_in_synopsis, is_none, with_place, takes_no_more}
+use Rattle.mdoc_words.specs.Meanings.{taken_by}
+use Rattle.mdoc_words.specs.Rules.{after_first, author, author_line_by, function, function_begins, heads_line, include, is_conditional, is_first, is_in_synopsis, is_none, is_outside, keeps_link, link, listing, named, named_author, naming, parameter, prefix, reference, takes_no_more, with_place}
+use Rattle.mdoc_words.specs.Taking.{taken_word}
 use Rattle.mdoc_words.specs.Keeping.{is_whole, whole_for}
 use Rattle.mdoc_layout.specs.Seeing.{Offered}
-use Rattle.mdoc_words.specs.Taking.{author, author_line_by, after_first, function, function_begins, include, is_conditional, is_first, is_outside, keeps_link, link, listing, named, named_author, naming, parameter, prefix, reference, taken_alone_by, taken_by, taken_word}
 use Rattle.mdoc_converter.proofs.Outcomes.{never}
 
 -- ---- pages that are the same in this
@@ -84,20 +85,6 @@ include_apart q = apart_if q.lay.partial _ _ refl refl
 begins_apart : (q : Page) → apart q.call.taker ≡ true → apart (function_begins q).page.call.taker ≡ true
 begins_apart q h = apart_if q.lay.partial _ _ h h
 
-alone_apart : (m : Macro) (q : Page) → apart q.call.taker ≡ true → apart (taken_alone_by m q).page.call.taker ≡ true
-unfolding apart
-alone_apart macros.Att q h = refl
-alone_apart macros.Bsd q h = refl
-alone_apart macros.BsdRelease q h = refl
-alone_apart macros.Standard q h = refl
-alone_apart macros.Library q h = refl
-alone_apart macros.Prefix q h = prefix_apart q
-alone_apart macros.OwnOpens q h = prefix_apart q
-alone_apart macros.OwnCloses q h = refl
-alone_apart macros.FunctionOpens q h = begins_apart (with_place (record q.place { parameters = First }) (takes_no_more q)) refl
-alone_apart macros.Include q h = include_apart q
-alone_apart m q h = h
-
 taken_apart : (m : Macro) (q : Page) → apart m ≡ true → apart q.call.taker ≡ true → apart (taken_by m q).page.call.taker ≡ true
 unfolding apart
 taken_apart (macros.Words font) q i h = h
@@ -118,7 +105,17 @@ taken_apart macros.Author q i h = author_apart q h
 taken_apart macros.Link q i h = link_apart q h
 taken_apart macros.Function q i h = never i
 taken_apart (macros.Stands system) q i h = refl
-taken_apart m q i h = alone_apart q.call.taker q h
+taken_apart macros.Att q i h = refl
+taken_apart macros.Bsd q i h = refl
+taken_apart macros.BsdRelease q i h = refl
+taken_apart macros.Standard q i h = refl
+taken_apart macros.Library q i h = refl
+taken_apart macros.Prefix q i h = prefix_apart q
+taken_apart macros.OwnOpens q i h = prefix_apart q
+taken_apart macros.OwnCloses q i h = refl
+taken_apart macros.FunctionOpens q i h = begins_apart (with_place (record q.place { parameters = First }) (takes_no_more q)) refl
+taken_apart macros.Include q i h = include_apart q
+taken_apart m q i h = h
 
 -- ---- parameters, and a function's
 

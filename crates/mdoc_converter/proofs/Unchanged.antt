@@ -14,7 +14,7 @@ use Rattle.mdoc_converter.specs.Reading.{State, Emitted, emitted, preceded, said
 use Rattle.mdoc_words.specs.Keeping.{ends_word}
 use Rattle.mdoc_converter.specs.Scanning.{asleep_with, prefix_grows, prefix_then, gives_up, is_blank, offer, offer_whole, passes_to, wakes}
 use Rattle.mdoc_layout.specs.Texts.{prefix_of}
-use Rattle.mdoc_words.specs.Calls.{with_scan}
+use Rattle.mdoc_words.specs.Rules.{with_scan}
 
 -- a page that is read so
 unfoldable pub at : Scan → State → State

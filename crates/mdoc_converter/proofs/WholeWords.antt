@@ -12,18 +12,19 @@ use Rattle.mdoc_layout.specs.declared.page.Lay.{Lay}
 use Rattle.mdoc_layout.specs.declared.page.Page.{Page}
 use Rattle.mdoc_layout.specs.declared.page.Scan.TheVariants as scans
 use Rattle.mdoc_layout.specs.declared.seen.Seen.{Seen}
-use Rattle.mdoc_words.specs.Calls.{called_by, called, calls, call, encloses_address, ends_cell, is_pending, is_enclosure_pending, is_flag, is_none, joining, leaves, opens_address, seen_with, taking, with_scan}
+use Rattle.mdoc_words.specs.Calls.{call, called, called_by, calls, encloses_address, ends_cell, is_enclosure_pending, is_pending, joining, leaves, opens_address, taking}
+use Rattle.mdoc_words.specs.Meanings.{is_callable, joins_next}
+use Rattle.mdoc_words.specs.Rules.{is_none, seen_with, with_scan}
+use Rattle.mdoc_words.specs.Taking.{argument, is_bar, is_opening, some_taken, taken_word}
+use Rattle.mdoc_words.specs.Words.{closing_mark, marked_or, parsed, read_or_called, unmarked}
 use Rattle.mdoc_layout.specs.Laying.{put_closing, was_put, with_lay}
 use Rattle.mdoc_layout.specs.LayingOut.{lay_out}
-use Rattle.mdoc_words.specs.Macros.{is_callable}
 use Rattle.mdoc_words.specs.Options.{is_heading, reads_for}
 use Rattle.mdoc_converter.specs.Reading.{State, said}
 use Rattle.mdoc_converter.specs.Scanning.{offer}
 use Rattle.mdoc_layout.specs.Seeing.{Offered, offered, left, two, three}
 use Rattle.mdoc_layout.specs.Texts.{closer}
-use Rattle.mdoc_words.specs.Taking.{argument, is_bar, is_opening, some_taken, taken_word}
 use Rattle.mdoc_converter.specs.WrittenLines.{asks, heads_words, none_or, prints_otherwise, prints_words, said_of, unless_called, Way, Usual, way_after, way_of}
-use Rattle.mdoc_words.specs.Words.{closing_mark, marked_or, parsed, read_or_called, unmarked}
 use Rattle.mdoc_converter.proofs.Escapes.{and_left, and_right, is_not}
 use Rattle.mdoc_converter.proofs.Given.{Whole, whole_of, whole_after, whole_within, given_offered}
 use Rattle.mdoc_converter.proofs.MarksHeld.{the_mark, one_at_most, two_at_most, mark_whole}
@@ -138,7 +139,7 @@ joined_page false m = refl
 
 unfoldable pub call_by : Bool → Bool → Macro → Page → Offered
 call_by pending address m p =
-    if not pending then calls m p else if address then opens_address p else joining (is_flag p.call.taker) (leaves p)
+    if not pending then calls m p else if address then opens_address p else joining (joins_next p.call.taker) (leaves p)
 
 pub call_is : (m : Macro) (p : Page) → call m p ≡ call_by (is_pending p) (encloses_address m p) m p
 unfolding call call_by
@@ -277,7 +278,7 @@ pending_step true head m b s word at pending e =
     no_more_step head b s (opens_address p) (record p { closers = closers }) (scans.Given false) word [] at e (address_out p (pending_usual p pending)) refl
 pending_step false head m b s word at pending e =
     let p = s.page in
-    let flag = is_flag p.call.taker in
+    let flag = joins_next p.call.taker in
     left_step head b s (joining flag (leaves p)) (scans.Given false) word [] at e
     (joined_out flag (leaves p) p (leaves_out p at.fits (pending_usual p pending))) (joined_page flag (leaves p))
 

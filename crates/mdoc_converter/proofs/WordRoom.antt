@@ -10,7 +10,7 @@ use Rattle.mdoc_layout.specs.declared.page.Inside.TheVariants as insides
 use Rattle.mdoc_layout.specs.declared.page.Page.{Page}
 use Rattle.mdoc_layout.specs.declared.page.Scan.{Scan}
 use Rattle.mdoc_layout.specs.declared.page.Scan.TheVariants as scans
-use Rattle.mdoc_words.specs.Calls.{with_scan}
+use Rattle.mdoc_words.specs.Rules.{with_scan}
 use Rattle.mdoc_words.specs.Escaping.{escape_then}
 use Rattle.mdoc_words.specs.Keeping.{after_name, ends_escape, ends_word, in_named, in_word_of, is_whole, keep, keep_begun, keep_escape, keep_unshown, keeping, turns, whole_for, widens, wider, within, within_escape}
 use Rattle.mdoc_layout.specs.LayingOut.{lay_out}

@@ -28,9 +28,10 @@ use Rattle.mdoc_layout.specs.declared.seen.Seen.{Seen}
 use Rattle.mdoc_layout.specs.Blocks.{block_opens, item, item_ends, list_begins, list_ends, display_begins}
 use Rattle.mdoc_layout.specs.Blocks.{display_ends, outer_goes_on, line_opens, tag_ends}
 use Rattle.mdoc_converter.specs.Definitions.{is_own}
+use Rattle.mdoc_words.specs.Calls.{called, is_pending, leaves}
 use Rattle.mdoc_words.specs.Macros.{macro_of}
+use Rattle.mdoc_words.specs.Rules.{is_none, is_synopsis, with_place, with_scan}
 use Rattle.mdoc_layout.specs.Seeing.{Offered, and_taken, left, none, offered, three, two, with_stack}
-use Rattle.mdoc_words.specs.Calls.{called, is_pending, leaves, is_none, is_synopsis, with_place, with_scan}
 
 -- names of macros begin with a capital letter, or with a percent sign
 abbrev pub is_request : List ℕ → Bool

@@ -22,6 +22,7 @@ use Rattle.mdoc_layout.specs.declared.page.Prefix.{Prefix}
 use Rattle.mdoc_layout.specs.declared.page.Prefix.TheVariants as prefixes
 use Rattle.mdoc_layout.specs.declared.seen.Seen.{Seen}
 use Rattle.mdoc_words.specs.Calls.{tab}
+use Rattle.mdoc_words.specs.Words.{given, goes_on, long}
 use Rattle.mdoc_layout.specs.Columns.{has_rows}
 use Rattle.mdoc_converter.specs.Definitions.{in_definition}
 use Rattle.mdoc_words.specs.Escaping.{escape_then}
@@ -31,7 +32,6 @@ use Rattle.mdoc_layout.specs.Laying.{is_control}
 use Rattle.mdoc_converter.specs.Lines.{call_of, named_line, ends}
 use Rattle.mdoc_converter.specs.Rows.{in_table}
 use Rattle.mdoc_layout.specs.Seeing.{Offered, offered, left, two, taken, and_taken}
-use Rattle.mdoc_words.specs.Words.{given, long, goes_on}
 
 abbrev pub is_letter : ℕ → Bool
 is_letter b = (nat_le (code "A") b && nat_le b (code "Z")) || (nat_le (code "a") b && nat_le b (code "z"))

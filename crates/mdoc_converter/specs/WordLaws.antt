@@ -8,12 +8,13 @@ use Rattle.mdoc_layout.specs.declared.page.Page.{Page}
 use Rattle.mdoc_layout.specs.declared.page.Scan.{Scan}
 use Rattle.mdoc_layout.specs.declared.page.Scan.TheVariants as scans
 use Rattle.mdoc_converter.specs.declared.pending.Pending.TheVariants.{Nothing}
-use Rattle.mdoc_words.specs.Calls.{is_pending, with_scan}
+use Rattle.mdoc_words.specs.Calls.{is_pending}
+use Rattle.mdoc_words.specs.Macros.{macro_of}
+use Rattle.mdoc_words.specs.Rules.{with_scan}
 use Rattle.mdoc_layout.specs.Columns.{has_rows}
 use Rattle.mdoc_layout.specs.Laying.{Laid, laid, then_laid}
 use Rattle.mdoc_layout.specs.LayingOut.{lay_out}
 use Rattle.mdoc_converter.specs.Lines.{ends_joined}
-use Rattle.mdoc_words.specs.Macros.{macro_of}
 use Rattle.mdoc_converter.specs.Reading.{State, preceded, fed, heard_in}
 use Rattle.mdoc_converter.specs.Saying.{parts_of, state_after, text_of, words_of}
 use Rattle.mdoc_converter.specs.WrittenLines.{each, names_no_string, is_text, begins_text, is_plain}

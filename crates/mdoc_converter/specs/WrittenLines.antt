@@ -10,12 +10,13 @@ use Rattle.mdoc_layout.specs.declared.macros.Macro.TheVariants as macros
 use Rattle.mdoc_layout.specs.declared.page.Block.{Block}
 use Rattle.mdoc_layout.specs.Blocks.{is_diagnosis}
 use Rattle.mdoc_words.specs.Calls.{called_by, is_item}
+use Rattle.mdoc_words.specs.Macros.{macro_of}
+use Rattle.mdoc_words.specs.Meanings.{is_callable}
 use Rattle.mdoc_layout.specs.Columns.{has_rows}
 use Rattle.mdoc_words.specs.Escaping.{escape_then}
 use Rattle.mdoc_words.specs.Keeping.{ends_escape, ends_word, is_title}
 use Rattle.mdoc_layout.specs.Laying.{is_control}
 use Rattle.mdoc_converter.specs.Lines.{calls_none}
-use Rattle.mdoc_words.specs.Macros.{is_callable, macro_of}
 use Rattle.mdoc_words.specs.Options.{is_heading}
 
 -- ---- text lines

@@ -2,26 +2,19 @@
 -- their words.
 use Rattle.std.specs.Prelude.{◌≡◌, ℕ, ◌+◌, ◌-◌, List, [], ◌∷◌, ◌++◌, length, take, slice_index, Bool, true}
 use Rattle.std.specs.Prelude.{false, not, ◌==◌, ◌&&◌, nat_lt, if◌then◌else◌, Option, None, Some}
-use Prim.Native.Char.{code}
 use Rattle.mdoc_layout.specs.declared.acts.Act.TheVariants as acts
-use Rattle.mdoc_layout.specs.declared.acts.Request.TheVariants as requests
 use Rattle.mdoc_layout.specs.declared.acts.Text.TheVariants as texts
-use Rattle.mdoc_layout.specs.declared.macros.Font.TheVariants.{Roman}
 use Rattle.mdoc_layout.specs.declared.macros.Macro.{Macro}
 use Rattle.mdoc_layout.specs.declared.macros.Macro.TheVariants as macros
 use Rattle.mdoc_layout.specs.declared.macros.Pair.{Pair}
 use Rattle.mdoc_layout.specs.declared.macros.Pair.TheVariants as pairs
-use Rattle.mdoc_layout.specs.declared.page.Call.{Call}
-use Rattle.mdoc_layout.specs.declared.page.Last.TheVariants as lasts
 use Rattle.mdoc_layout.specs.declared.page.Page.{Page}
-use Rattle.mdoc_layout.specs.declared.page.Parameters.TheVariants.{Outside}
-use Rattle.mdoc_layout.specs.declared.page.Place.{Place}
-use Rattle.mdoc_layout.specs.declared.page.Scan.{Scan}
 use Rattle.mdoc_layout.specs.declared.page.Scan.TheVariants as scans
-use Rattle.mdoc_layout.specs.declared.page.Section.{Section}
-use Rattle.mdoc_layout.specs.declared.page.Section.TheVariants.{Synopsis}
 use Rattle.mdoc_layout.specs.declared.seen.Seen.{Seen}
-use Rattle.mdoc_words.specs.Macros.{macro_of, is_callable}
+use Rattle.mdoc_words.specs.Macros.{macro_of}
+use Rattle.mdoc_words.specs.Meanings.{is_callable, is_nothing, is_opened_by, is_pending_from, joins_next}
+use Rattle.mdoc_words.specs.Meanings.{pending_from}
+use Rattle.mdoc_words.specs.Rules.{function_closes, is_none, seen_with, takes_no_more, with_place}
 use Rattle.mdoc_layout.specs.Columns.{is_column}
 use Rattle.mdoc_layout.specs.Seeing.{Offered, offered, left, two, taken, and_taken}
 use Rattle.mdoc_layout.specs.Texts.{closer}
@@ -36,106 +29,15 @@ callable quoted (Some m) = if not quoted && is_callable m then Some m else None
 abbrev pub called_by : Bool → List ℕ → Option Macro
 called_by quoted word = callable quoted (macro_of word)
 
-abbrev pub hanging : ℕ → ℕ
-hanging width = if nat_lt width 900 then width + 1 else 900
-
 -- ---- changes
 
-abbrev pub with_call : Call → Page → Page
-with_call c p = record p { call = c }
-
-abbrev pub with_place : Place → Page → Page
-with_place pl p = record p { place = pl }
-
-abbrev pub with_scan : Scan → Page → Page
-with_scan s p = record p { scan = s }
-
-abbrev pub seen_with : Page → Offered → Offered
-seen_with p m = offered p m.seen
-
 -- ---- macros that stand for text where they took no word
-
-abbrev pub is_in_synopsis : Section → Bool
-is_in_synopsis Synopsis = true
-is_in_synopsis s = false
-
-abbrev pub is_synopsis : Page → Bool
-is_synopsis p = is_in_synopsis p.place.section
-
-abbrev pub is_none : List ℕ → Bool
-is_none xs = length xs == 0
-
-abbrev pub is_nothing : Pair → Bool
-is_nothing pairs.Nothing = true
-is_nothing pair = false
-
--- an enclosure that has no words yet: what opens it stands after the opening marks that come first in it
-abbrev pub is_opened_by : Macro → Bool
-is_opened_by (macros.Encloses pair) = true
-is_opened_by (macros.Opens pair) = not (is_nothing pair)
-is_opened_by m = false
 
 abbrev pub is_enclosure_pending : Page → Bool
 is_enclosure_pending p = is_opened_by p.call.taker && not p.call.some
 
-abbrev pub is_pending_from : Macro → Bool → Bool → Bool
-is_pending_from macros.Flag some named = not some
-is_pending_from macros.Argument some named = not some
-is_pending_from macros.Path some named = not some
-is_pending_from macros.Mail some named = not some
-is_pending_from macros.Att some named = not some
-is_pending_from macros.Bsd some named = not some
-is_pending_from (macros.Stands system) some named = not some
-is_pending_from macros.Name some named = not some && named
-is_pending_from macros.Function some named = some
-is_pending_from macros.Link some named = some
-is_pending_from m some named = is_opened_by m && not some
-
 abbrev pub is_pending : Page → Bool
 is_pending p = is_pending_from p.call.taker p.call.some (not (is_none p.name))
-
-abbrev pub takes_no_more : Page → Page
-takes_no_more p = with_call (record p.call { taker = macros.Words Roman; first = false; some = true }) p
-
-abbrev pub heads_line : Page → Bool
-heads_line p = p.call.first && not p.call.some && is_synopsis p
-
--- the words of a line stay together there
-abbrev pub after_name : Page → Page
-after_name p = record p { place = record p.place { last = lasts.Name }; lay = record p.lay { kept = true } }
-
--- a synopsis sets the name apart from what it hangs after
-abbrev pub own_name : Page → Offered
-own_name p =
-    if heads_line p then offered (after_name p) (two (acts.Hanging (hanging p.place.width)) acts.Own)
-    else offered p (left acts.Own)
-
-abbrev pub function_closes : Page → Offered
-function_closes p =
-    offered (with_place (record p.place { parameters = Outside }) p)
-    (if is_synopsis p then two (acts.Close texts.FunctionEnds) (acts.Request requests.HangEnds)
-    else left (acts.Close (texts.Closing (code ")"))))
-
--- a link stands after its name, and after a colon
-abbrev pub link_closes : Page → Seen
-link_closes p =
-    if p.call.listed then two (acts.Close texts.Colon) (acts.Text texts.Link)
-    else two acts.Fresh (acts.Text texts.Link)
-
-abbrev pub pending_from : Macro → Page → Offered
-pending_from macros.Flag p = offered p (left (acts.Text texts.Dash))
-pending_from macros.Argument p = offered p (two (acts.Text texts.File) (acts.Text texts.Dots))
-pending_from macros.Path p = offered p (left (acts.Text texts.Home))
-pending_from macros.Mail p = offered p (left (acts.Text texts.Home))
-pending_from macros.Att p = offered p (left (acts.Text texts.Att))
-pending_from macros.Bsd p = offered p (left (acts.Text texts.Bsd))
-pending_from (macros.Stands system) p = offered p (left (acts.Text (texts.System system)))
-pending_from macros.Name p = own_name p
-pending_from macros.Function p = function_closes p
-pending_from macros.Link p = offered p (link_closes p)
-pending_from (macros.Encloses pair) p = offered p (two (acts.Text (texts.Opening pair)) acts.Join)
-pending_from (macros.Opens pair) p = offered p (two (acts.Text (texts.Opening pair)) acts.Join)
-pending_from m p = offered p (left acts.Nothing)
 
 abbrev pub pending : Page → Offered
 pending p = pending_from p.call.taker p
@@ -225,11 +127,7 @@ tab p =
     if not (is_none p.marks) then offered p (two acts.Closers acts.Marks) else
     offered (takes_no_more p) (and_taken (two acts.Closers acts.Cell))
 
-abbrev pub is_flag : Macro → Bool
-is_flag macros.Flag = true
-is_flag m = false
-
--- a dash that no word followed joins what the next macro says
+-- what the next macro says joins a dash that no word followed
 abbrev pub joining : Bool → Offered → Offered
 joining joins m = if joins then offered m.page (record m.seen { second = acts.Join }) else m
 
@@ -262,4 +160,4 @@ opens_address p =
 unfoldable pub call : Macro → Page → Offered
 call m p =
     if not (is_pending p) then calls m p else
-    if encloses_address m p then opens_address p else joining (is_flag p.call.taker) (leaves p)
+    if encloses_address m p then opens_address p else joining (joins_next p.call.taker) (leaves p)

@@ -13,11 +13,10 @@ use Rattle.mdoc_layout.specs.declared.page.Page.{Page}
 use Rattle.mdoc_layout.specs.declared.page.Scan.{Scan}
 use Rattle.mdoc_layout.specs.declared.page.Scan.TheVariants as scans
 use Rattle.mdoc_layout.specs.declared.seen.Seen.{Seen}
-use Rattle.mdoc_words.specs.Calls.{with_scan, is_synopsis, is_none}
+use Rattle.mdoc_words.specs.Rules.{is_none, is_outside, is_synopsis, with_scan}
 use Rattle.mdoc_words.specs.Escaping.{escape_then}
 use Rattle.mdoc_words.specs.Options.{is_shown, reads_for}
 use Rattle.mdoc_layout.specs.Seeing.{Offered, offered, left, taken}
-use Rattle.mdoc_words.specs.Taking.{is_outside}
 
 abbrev pub ends_word : ℕ → Bool
 ends_word b = (b == code " ") || (b == code "\t") || (b == code "\n")

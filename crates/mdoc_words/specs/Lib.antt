@@ -2,6 +2,8 @@ pub mod Calls
 pub mod Escaping
 pub mod Keeping
 pub mod Macros
+pub mod Meanings
 pub mod Options
+pub mod Rules
 pub mod Taking
 pub mod Words

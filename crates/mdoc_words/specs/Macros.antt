@@ -1,5 +1,5 @@
--- The table of macros (mdoc(7), MACRO OVERVIEW).
-use Rattle.std.specs.Prelude.{ℕ, List, [], ◌∷◌, Bool, true, false, not, ◌==◌, ◌&&◌, ◌||◌, if◌then◌else◌}
+-- The table of macros by their names (mdoc(7), MACRO OVERVIEW).
+use Rattle.std.specs.Prelude.{ℕ, List, [], ◌∷◌, not, ◌==◌, ◌&&◌, ◌||◌, if◌then◌else◌}
 use Rattle.std.specs.Prelude.{Option, None, Some}
 use Prim.Native.Char.{code}
 use Rattle.mdoc_layout.specs.declared.macros.Macro.{Macro}
@@ -7,8 +7,7 @@ use Rattle.mdoc_layout.specs.declared.macros.Macro.TheVariants as macros
 use Rattle.mdoc_layout.specs.declared.macros.Font.{Font}
 use Rattle.mdoc_layout.specs.declared.macros.Font.TheVariants.{Roman, Italic}
 use Rattle.mdoc_layout.specs.declared.macros.Pair.TheVariants.{Braces}
-use Rattle.mdoc_layout.specs.declared.macros.System.{System}
-use Rattle.mdoc_layout.specs.declared.macros.System.TheVariants.{BsdOs, Beta, Developed}
+use Rattle.mdoc_layout.specs.declared.macros.System.TheVariants.{BsdOs}
 use Rattle.mdoc_words.specs.declared.macros.TheConstants.{NAMES}
 
 -- what a table has after a name of two bytes
@@ -46,48 +45,3 @@ macro_of (a ∷ []) = None
 macro_of (a ∷ b ∷ []) = short_macro a b
 macro_of (a ∷ b ∷ c ∷ []) = long_macro a b c
 macro_of (a ∷ b ∷ c ∷ d ∷ rest) = None
-
--- sentences are called by no word
-abbrev pub is_name : System → Bool
-is_name Beta = false
-is_name Developed = false
-is_name system = true
-
--- macros that stand for text, joints, and those of functions and tables
-abbrev pub is_callable_too : Macro → Bool
-is_callable_too (macros.Stands system) = is_name system
-is_callable_too macros.Att = true
-is_callable_too macros.Bsd = true
-is_callable_too macros.Standard = true
-is_callable_too macros.Joins = true
-is_callable_too macros.Apostrophe = true
-is_callable_too macros.Prefix = true
-is_callable_too macros.Function = true
-is_callable_too macros.FunctionOpens = true
-is_callable_too macros.FunctionCloses = true
-is_callable_too macros.Include = true
-is_callable_too macros.Link = true
-is_callable_too macros.Cell = true
-is_callable_too macros.ResultType = true
-is_callable_too macros.Variable = true
-is_callable_too macros.Configuration = true
-is_callable_too m = false
-
--- a word of a line that another macro began calls it
-abbrev pub is_callable : Macro → Bool
-is_callable (macros.Words x) = true
-is_callable macros.SectionName = true
-is_callable macros.Flag = true
-is_callable macros.Argument = true
-is_callable macros.Path = true
-is_callable macros.Mail = true
-is_callable macros.Name = true
-is_callable macros.Parameter = true
-is_callable macros.Reference = true
-is_callable macros.Author = true
-is_callable (macros.Encloses x) = true
-is_callable (macros.Opens x) = true
-is_callable (macros.Closes x) = true
-is_callable macros.OwnOpens = true
-is_callable macros.OwnCloses = true
-is_callable m = is_callable_too m

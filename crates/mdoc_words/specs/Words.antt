@@ -16,11 +16,12 @@ use Rattle.mdoc_layout.specs.declared.page.Page.{Page}
 use Rattle.mdoc_layout.specs.declared.page.Scan.{Scan}
 use Rattle.mdoc_layout.specs.declared.page.Scan.TheVariants as scans
 use Rattle.mdoc_layout.specs.declared.seen.Seen.{Seen}
-use Rattle.mdoc_words.specs.Calls.{called_by, with_call, with_scan, seen_with, is_none, is_enclosure_pending}
-use Rattle.mdoc_words.specs.Calls.{is_pending, leaves, call}
+use Rattle.mdoc_words.specs.Calls.{call, called_by, is_enclosure_pending, is_pending, leaves}
+use Rattle.mdoc_words.specs.Meanings.{begins_anew}
+use Rattle.mdoc_words.specs.Rules.{is_none, prefix, seen_with, with_call, with_scan}
+use Rattle.mdoc_words.specs.Taking.{argument}
 use Rattle.mdoc_words.specs.Options.{is_heading, option, reads_options}
 use Rattle.mdoc_layout.specs.Seeing.{Offered, offered, left, two, three}
-use Rattle.mdoc_words.specs.Taking.{prefix, argument}
 
 abbrev pub is_closing : ℕ → Bool
 is_closing b =
@@ -70,15 +71,6 @@ mark_as_word p =
     let q = with_scan scans.Between p in
     if is_prefix p.call.taker then prefix q else
     offered (with_call (record q.call { some = true }) q) (left (acts.Word Roman))
-
--- a macro whose element a mark ends: after marks it begins another
-abbrev pub begins_anew : Macro → Bool
-begins_anew macros.Flag = true
-begins_anew macros.Argument = true
-begins_anew macros.Path = true
-begins_anew macros.Mail = true
-begins_anew macros.Name = true
-begins_anew m = false
 
 abbrev pub taken_by_same : Macro → Offered → Offered
 taken_by_same m l = seen_with (with_call (record l.page.call { taker = m }) l.page) l

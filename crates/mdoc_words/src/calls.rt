@@ -3,11 +3,12 @@ ghost use Rattle.std.specs.Prelude.{◌≡◌, ◌≤◌};
 ghost use Rattle.mdoc_layout.specs.Seeing.{offered};
 ghost use Rattle.mdoc_words.specs.Calls as specs;
 
-use super::macros::{is_callable, macro_of};
-use mdoc_layout::{
-    Act, Font, Kind, Last, Macro, Page, Pair, Parameters, Request, Scan, Section, Seen, Text,
-    closer,
+use super::macros::macro_of;
+use super::meanings::{
+    is_callable, is_opened_by, is_pending_from, joins_next, meaning_of, said_for,
 };
+use super::rules::{function_closes, takes_no_more};
+use mdoc_layout::{Act, Kind, Macro, Page, Pair, Scan, Seen, Text, closer};
 use nr_units::Name;
 
 /// How many enclosures a line may have open.
@@ -23,14 +24,6 @@ pub(crate) fn called_by(quoted: bool, word: &[u8]) -> Option<Macro>
     }
 }
 
-/// The width of a hanging line, after a name of this width.
-pub(crate) fn hanging(width: u16) -> u16
-    ensures value { result ≡ specs.hanging width }
-    ensures few { result ≤ 900 }
-{
-    if width < 900 { width + 1 } else { 900 }
-}
-
 /// Whether the last enclosure is one of angle brackets.
 fn ends_in_angle(closers: &[u8]) -> bool
     ensures { result ≡ specs.ends_in_angle closers.now }
@@ -39,90 +32,25 @@ fn ends_in_angle(closers: &[u8]) -> bool
     len > 0 && closers[len - 1] == b'a'
 }
 
-/// In the synopsis.
-pub fn is_synopsis(page: &Page) -> bool
-    ensures { result ≡ specs.is_synopsis page.now }
-{
-    matches!(page.place.section, Section::Synopsis)
-}
-
 /// What takes words stands for text where it took none, or has an end.
 pub fn is_pending(page: &Page) -> bool
     ensures { result ≡ specs.is_pending page.now }
 {
-    match page.call.taker {
-        Macro::Flag
-        | Macro::Argument
-        | Macro::Path
-        | Macro::Mail
-        | Macro::Att
-        | Macro::Bsd
-        | Macro::Stands(_) => !page.call.some,
-        Macro::Name => !page.call.some && !page.name.is_empty(),
-        Macro::Function | Macro::Link => page.call.some,
-        _ => is_enclosure_pending(page),
-    }
+    is_pending_from(page.call.taker, page.call.some, !page.name.is_empty())
 }
 
 /// What opens an enclosure stands after the opening marks that come first in it.
 pub(crate) fn is_enclosure_pending(page: &Page) -> bool
     ensures { result ≡ specs.is_enclosure_pending page.now }
 {
-    match page.call.taker {
-        Macro::Encloses(_) => !page.call.some,
-        Macro::Opens(pair) => !page.call.some && !matches!(pair, Pair::Nothing),
-        _ => false,
-    }
-}
-
-/// No macro takes words.
-pub(crate) fn takes_no_more(page: &mut Page)
-    ensures { page.new ≡ specs.takes_no_more page.old }
-{
-    page.call.taker = Macro::Words(Font::Roman);
-    page.call.first = false;
-    page.call.some = true;
-}
-
-/// A name begins a line of the synopsis.
-pub(crate) fn heads_line(page: &Page) -> bool
-    ensures { result ≡ specs.heads_line page.now }
-{
-    page.call.first && !page.call.some && is_synopsis(page)
-}
-
-/// The page's name is printed, in a synopsis as the beginning of a line.
-fn own_name(page: &mut Page) -> Seen
-    ensures { offered page.new result ≡ specs.own_name page.old }
-{
-    if heads_line(page) {
-        page.place.last = Last::Name;
-        page.lay.kept = true;
-        return Seen::two(Act::Hanging(hanging(page.place.width)), Act::Own);
-    }
-    Seen::left(Act::Own)
+    is_opened_by(page.call.taker) && !page.call.some
 }
 
 /// What is pending from the macro that took words.
 fn pending(page: &mut Page) -> Seen
     ensures { offered page.new result ≡ specs.pending page.old }
 {
-    match page.call.taker {
-        Macro::Flag => Seen::left(Act::Text(Text::Dash)),
-        Macro::Argument => Seen::two(Act::Text(Text::File), Act::Text(Text::Dots)),
-        Macro::Path | Macro::Mail => Seen::left(Act::Text(Text::Home)),
-        Macro::Att => Seen::left(Act::Text(Text::Att)),
-        Macro::Bsd => Seen::left(Act::Text(Text::Bsd)),
-        Macro::Stands(system) => Seen::left(Act::Text(Text::System(system))),
-        Macro::Name => own_name(page),
-        Macro::Function => function_closes(page),
-        Macro::Link => link_closes(page),
-        Macro::Encloses(pair) | Macro::Opens(pair) => Seen::two(
-            Act::Text(Text::Opening(pair)),
-            Act::Join,
-        ),
-        _ => Seen::left(Act::Nothing),
-    }
+    said_for(page, meaning_of(page.call.taker).pending)
 }
 
 /// What is pending is said, and no macro takes words then.
@@ -133,30 +61,6 @@ pub fn leaves(page: &mut Page) -> Seen
     let seen = pending(page);
     takes_no_more(page);
     seen
-}
-
-/// A function's parameters end.
-fn function_closes(page: &mut Page) -> Seen
-    ensures { offered page.new result ≡ specs.function_closes page.old }
-{
-    page.place.parameters = Parameters::Outside;
-    if is_synopsis(page) {
-        return Seen::two(
-            Act::Close(Text::FunctionEnds),
-            Act::Request(Request::HangEnds),
-        );
-    }
-    Seen::left(Act::Close(Text::Closing(b')')))
-}
-
-/// A link comes after its name.
-fn link_closes(page: &Page) -> Seen
-    ensures { result ≡ specs.link_closes page.now }
-{
-    if page.call.listed {
-        return Seen::two(Act::Close(Text::Colon), Act::Text(Text::Link));
-    }
-    Seen::two(Act::Fresh, Act::Text(Text::Link))
 }
 
 /// A macro is called: what is pending from the one before comes first.
@@ -170,7 +74,7 @@ pub(crate) fn call(page: &mut Page, called: Macro) -> Seen
     if encloses_address(page, called) {
         return opens_address(page);
     }
-    let joins = matches!(page.call.taker, Macro::Flag);
+    let joins = joins_next(page.call.taker);
     let mut seen = leaves(page);
     if joins {
         seen.second = Act::Join;

@@ -3,9 +3,9 @@ ghost use Rattle.std.specs.Prelude.{◌≡◌, ◌≤◌};
 ghost use Rattle.mdoc_layout.specs.Seeing.{offered};
 ghost use Rattle.mdoc_words.specs.Keeping as specs;
 
-use super::calls::is_synopsis;
 use super::escaping::escape_then;
 use super::options::{is_shown, reads_options};
+use super::rules::is_synopsis;
 use mdoc_layout::{Act, Escape, Inside, Macro, Page, Parameters, Scan, Seen};
 use nr_units::Name;
 

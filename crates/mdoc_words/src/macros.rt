@@ -177,8 +177,8 @@ fn long_macro(first: u8, second: u8, third: u8) -> Option<Macro>
 
 /// The macro of a name.
 ///
-/// Proved: `macro_of` and `is_callable` look names up in the table of macros: what a name is, and whether it is
-/// called. (`macro_of`, `is_callable`)
+/// Proved: `macro_of` looks a name up in the table of macros, and `meaning_of` has what each of them means: whether a
+/// word calls it, how it takes words, what stands for it without words. (`macro_of`, `meaning_of`)
 pub fn macro_of(name: &[u8]) -> Option<Macro>
     ensures { result ≡ specs.macro_of name.now }
 {
@@ -194,54 +194,4 @@ pub fn is_macro(name: &[u8]) -> bool
     ensures { result ≡ is_some (specs.macro_of name.now) }
 {
     macro_of(name).is_some()
-}
-
-/// Whether it is called by a word of a line that another macro began.
-pub(crate) fn is_callable(called: Macro) -> bool
-    ensures { result ≡ specs.is_callable called }
-{
-    match called {
-        Macro::Words(_)
-        | Macro::SectionName
-        | Macro::Flag
-        | Macro::Argument
-        | Macro::Path
-        | Macro::Mail
-        | Macro::Name
-        | Macro::Parameter
-        | Macro::Reference
-        | Macro::Author
-        | Macro::Encloses(_)
-        | Macro::Opens(_)
-        | Macro::Closes(_)
-        | Macro::OwnOpens
-        | Macro::OwnCloses => true,
-        _ => is_callable_too(called),
-    }
-}
-
-/// Those that stand for text, joints, and those of functions and tables.
-fn is_callable_too(called: Macro) -> bool
-    ensures { result ≡ specs.is_callable_too called }
-{
-    match called {
-        Macro::Stands(System::Beta | System::Developed) => false,
-        Macro::Stands(_)
-        | Macro::Att
-        | Macro::Bsd
-        | Macro::Standard
-        | Macro::Joins
-        | Macro::Apostrophe
-        | Macro::Prefix
-        | Macro::Function
-        | Macro::FunctionOpens
-        | Macro::FunctionCloses
-        | Macro::Include
-        | Macro::Link
-        | Macro::Cell
-        | Macro::ResultType
-        | Macro::Variable
-        | Macro::Configuration => true,
-        _ => false,
-    }
 }

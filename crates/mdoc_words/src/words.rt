@@ -4,8 +4,10 @@ ghost use Rattle.mdoc_layout.specs.Seeing.{offered};
 ghost use Rattle.mdoc_words.specs.Words as specs;
 
 use super::calls::{call, called_by, is_enclosure_pending, is_pending, leaves};
+use super::meanings::begins_anew;
 use super::options::{option, reads_options};
-use super::taking::{argument, prefix};
+use super::rules::prefix;
+use super::taking::argument;
 use mdoc_layout::{Act, Following, Font, Inside, Macro, Page, Pair, Scan, Seen, Text};
 use nr_units::Name;
 
@@ -28,16 +30,6 @@ fn is_closing(mark: u8) -> bool
     ensures { result ≡ specs.is_closing mark }
 {
     matches!(mark, b'.' | b',' | b':' | b';' | b')' | b']' | b'?' | b'!')
-}
-
-/// A macro whose element a mark ends: after marks it begins another.
-fn begins_anew(called: Macro) -> bool
-    ensures { result ≡ specs.begins_anew called }
-{
-    matches!(
-        called,
-        Macro::Flag | Macro::Argument | Macro::Path | Macro::Mail | Macro::Name
-    )
 }
 
 /// What takes the words after a long one: those after the first of a heading are read as on other lines.
