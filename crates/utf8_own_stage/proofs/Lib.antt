@@ -1,6 +1,9 @@
 pub mod Back
+pub mod Begins
 pub mod Held
 pub mod Letters
+pub mod LettersMore
 pub mod NoPoints
 pub mod OnlyPoints
 pub mod Parts
+pub mod Quiet

@@ -1,3 +1,4 @@
 pub mod Coding
 pub mod Laws
+pub mod Letters
 pub mod Points

@@ -1,21 +1,22 @@
 //! What stands for a cluster in a page's own table, and the points between clusters.
-ghost use Rattle.std.specs.Prelude.{◌≡◌, ◌+◌, ◌*◌, ◌<◌, ◌≤◌, ◌++◌, length, take, true};
-ghost use Rattle.utf8_own_characters.specs.Listening.{after, begins_three};
+ghost use Rattle.std.specs.Prelude.{◌≡◌, ◌+◌, ◌*◌, ◌<◌, ◌≤◌, ◌++◌, length, take};
+ghost use Rattle.utf8_own_characters.specs.Listening.{after};
 ghost use Rattle.utf8_own_characters.specs.Table.{Good};
 ghost use Rattle.utf8_own_stage.specs.Coding as specs;
 ghost use Rattle.utf8_own_stage.specs.Points.{left, passed, point, text_of};
 
 use super::points::{Place, Point};
+use super::runs::{letter_of, put_letters};
 use nr_vectors::slice_vec::SliceVec;
 use preconv_converter::{Target, put_likeness};
-use utf8_own_characters::{Cluster, Code, Listened, Listener, OwnTable, begins_letter};
+use utf8_own_characters::{Cluster, Code, Listened, Listener, OwnTable};
 
 /// The most bytes of what comes of one that is read.
 pub(crate) const MOST: usize = 32;
 
 /// Puts the bytes of a cluster, or what its letter looks like where the table lacks it: at most 21 bytes.
 #[inline(always)]
-fn put_cluster(cluster: &Cluster, table: &OwnTable<'_>, out: &mut SliceVec<'_, u8>)
+pub(crate) fn put_cluster(cluster: &Cluster, table: &OwnTable<'_>, out: &mut SliceVec<'_, u8>)
     requires good { Good table.now }
     requires room { length out.old.items + 24 ≤ out.old.capacity }
     ensures items { out.new.items ≡ out.old.items ++ specs.coded table.now cluster.now }
@@ -47,7 +48,7 @@ fn put_point(place: &Place, character: char, out: &mut SliceVec<'_, u8>)
 
 /// Puts a cluster, if there is one, after what goes out before it: at most 26 bytes.
 #[inline(always)]
-fn put_done(
+pub(crate) fn put_done(
     cluster: Option<Cluster>,
     place: &mut Place,
     table: &OwnTable<'_>,
@@ -151,31 +152,7 @@ fn put_other(
     put_one(bytes, listener, place, table, out);
 }
 
-/// Puts what comes of the letter of three bytes that these begin with: of the first two comes nothing.
-#[inline(always)]
-fn put_letter(
-    bytes: &[u8],
-    listener: &mut Listener,
-    place: &mut Place,
-    table: &OwnTable<'_>,
-    out: &mut SliceVec<'_, u8>,
-)
-    requires good { Good table.now }
-    requires long { 3 ≤ length bytes.now }
-    requires three { begins_three bytes.now ≡ true }
-    requires room { length out.old.items + 32 ≤ out.old.capacity }
-    ensures items { out.new.items ≡ out.old.items ++ specs.said_of table.now listener.old place.old (take 3 bytes.now) }
-    ensures few { length out.new.items ≤ length out.old.items + 32 }
-    ensures listener { listener.new ≡ after listener.old (take 3 bytes.now) }
-    ensures place { place.new ≡ specs.place_after_all listener.old place.old (take 3 bytes.now) }
-    ensures room { out.new.capacity ≡ out.old.capacity }
-{
-    let listened = listener.read_three(bytes[0], bytes[1], bytes[2]);
-    put_listened(listened, place, table, out);
-    *listener = listened.listener;
-}
-
-/// Puts what comes of the first of these bytes, or of the letter that they begin with. Tells how many bytes that is.
+/// Puts what comes of the first of these bytes, or of the letters that they begin with. Tells how many bytes that is.
 #[inline(always)]
 fn put_first(
     bytes: &[u8],
@@ -186,9 +163,9 @@ fn put_first(
 ) -> usize
     requires good { Good table.now }
     requires some { 0 < length bytes.now }
-    requires room { length out.old.items + 32 ≤ out.old.capacity }
+    requires room { length out.old.items + 32 * length bytes.now ≤ out.old.capacity }
     ensures items { out.new.items ≡ out.old.items ++ specs.said_of table.now listener.old place.old (take result bytes.now) }
-    ensures few { length out.new.items ≤ length out.old.items + 32 }
+    ensures few { length out.new.items ≤ length out.old.items + 32 * result }
     ensures listener { listener.new ≡ after listener.old (take result bytes.now) }
     ensures place { place.new ≡ specs.place_after_all listener.old place.old (take result bytes.now) }
     ensures room { out.new.capacity ≡ out.old.capacity }
@@ -199,9 +176,8 @@ fn put_first(
         put_one(bytes, listener, place, table, out);
         return 1;
     }
-    if begins_letter(bytes) {
-        put_letter(bytes, listener, place, table, out);
-        return 3;
+    if let Some(first) = letter_of(bytes) {
+        return put_letters(first, bytes, listener, place, table, out);
     }
     put_other(bytes, listener, place, table, out);
     1

@@ -1,5 +1,6 @@
 //! Where lines of East Asian text, which has no blanks, may be cut: by special characters that print nothing.
 ghost use Rattle.std.specs.Prelude.{◌≡◌};
+ghost use Rattle.utf8_own_stage.specs.Letters as letters;
 ghost use Rattle.utf8_own_stage.specs.Points as specs;
 
 use utf8_own_characters::{is_east_asian, may_break_between};
@@ -122,6 +123,14 @@ impl Place {
         ensures { result ≡ specs.is_open self.now }
     {
         matches!(self.escape, Escape::Plain) && !matches!(self.table, TablePlace::Format)
+    }
+
+    /// Whether each character is printed as it comes: no escape or format of a table is read, and no newline waits.
+    #[inline(always)]
+    pub(crate) fn is_quiet(&self) -> bool
+        ensures { result ≡ letters.is_quiet self.now }
+    {
+        matches!(self.line, Line::Text | Line::Rest) && self.is_open() && !self.waits
     }
 
     /// Whether a newline would wait here: after an East Asian character in a text line, but not in a row of a table.

@@ -1,0 +1,86 @@
+-- Where each character is printed as it comes, a letter is printed after what stands before it, and so is the next one.
+use Rattle.std.proofs.Common.{◌≡◌, ℕ, ◌≤◌, List, [], ◌∷◌, ◌++◌, Bool, true, false, not, ◌&&◌, ◌||◌, ◌==◌, if◌then◌else◌, refl, sym, ◌∙◌, ap, arith}
+use Rattle.std.proofs.lemmas.Bool.Decides.{nat_tests}
+use Rattle.utf8_own_characters.specs.Breaking.{may_break}
+use Rattle.utf8_own_characters.proofs.Tests.{and_first, and_second, if_not, not_true}
+use Rattle.utf8_own_stage.specs.declared.points.Escape.{Escape}
+use Rattle.utf8_own_stage.specs.declared.points.Escape.TheVariants as escapes
+use Rattle.utf8_own_stage.specs.declared.points.Line.{Line}
+use Rattle.utf8_own_stage.specs.declared.points.Line.TheVariants as lines
+use Rattle.utf8_own_stage.specs.declared.points.Place.{Place}
+use Rattle.utf8_own_stage.specs.declared.points.Point.{Point}
+use Rattle.utf8_own_stage.specs.declared.points.Point.TheVariants.{Nothing, Cut, Newline, Joint}
+use Rattle.utf8_own_stage.specs.Coding.{put_at}
+use Rattle.utf8_own_stage.specs.Letters.{cut_between, is_printed, is_quiet, side}
+use Rattle.utf8_own_stage.specs.Points.{character_by, going_on, holds, is_format, is_open, is_plain, line_ended, line_of_escape, may_cut, may_join, newline, passed, passed_by, point, text_of}
+use Rattle.utf8_own_characters.specs.Breaking.{is_east_asian}
+
+is_line : (p : Place) → is_quiet p ≡ true → is_printed p.line ≡ true
+is_line p e = and_first (is_printed p.line) (is_open p) (and_first (is_printed p.line && is_open p) (not p.waits) e)
+
+pub is_open_so : (p : Place) → is_quiet p ≡ true → is_open p ≡ true
+is_open_so p e = and_second (is_printed p.line) (is_open p) (and_first (is_printed p.line && is_open p) (not p.waits) e)
+
+no_wait : (p : Place) → is_quiet p ≡ true → p.waits ≡ false
+no_wait p e = not_true p.waits (and_second (is_printed p.line && is_open p) (not p.waits) e)
+
+plain_so : (e : Escape) → is_plain e ≡ true → e ≡ escapes.Plain
+plain_so escapes.Plain e = refl
+plain_so escapes.Begun e = absurd (let no : false ≡ true = e in cc)
+plain_so escapes.Named e = absurd (let no : false ≡ true = e in cc)
+plain_so (escapes.Left n) e = absurd (let no : false ≡ true = e in cc)
+
+no_escape : (p : Place) → is_quiet p ≡ true → p.escape ≡ escapes.Plain
+no_escape p e = plain_so p.escape (and_first (is_plain p.escape) (not (is_format p.table)) (is_open_so p e))
+
+-- ---- the place after it
+
+printed_by : (l : Line) (c : ℕ) (p : Place) → is_printed l ≡ true → character_by l c p ≡ record p { before = c }
+printed_by lines.Text c p e = refl
+printed_by lines.Rest c p e = refl
+printed_by lines.Start c p e = absurd (let no : false ≡ true = e in cc)
+printed_by lines.Control c p e = absurd (let no : false ≡ true = e in cc)
+printed_by lines.Tee c p e = absurd (let no : false ≡ true = e in cc)
+printed_by lines.Name c p e = absurd (let no : false ≡ true = e in cc)
+
+-- of a character that is no newline and no backslash
+pub quiet_passed : (p : Place) (c : ℕ) → is_quiet p ≡ true → (c == newline) ≡ false → (c == 92) ≡ false → passed p c ≡ record p { before = c }
+quiet_passed p c e line slash =
+    let q : Place = record p { waits = false } in
+    ap (λ (x : Escape). passed_by x c q) (no_escape p e)
+    ∙ if_not (c == newline) (line_ended q) (going_on c q) line
+    ∙ if_not (c == 92) (record q { escape = escapes.Begun; line = line_of_escape q.line }) (character_by q.line c q) slash
+    ∙ printed_by p.line c q (is_line p e)
+    ∙ ap (λ (w : Bool). record p { before = c; waits = w }) (sym (no_wait p e))
+
+-- ---- what goes out
+
+pub quiet_point : (p : Place) (c : ℕ) → is_quiet p ≡ true → (c == 92) ≡ false → point p c ≡ (if may_break p.before c then Cut else Nothing)
+quiet_point p c e slash =
+    ap (λ (w : Bool). if w then (if is_east_asian c then Joint else Newline) else (if may_cut p c then Cut else Nothing)) (no_wait p e)
+    ∙ ap (λ (x : Bool). if not x && is_open p && may_break p.before c then Cut else Nothing) slash
+    ∙ ap (λ (x : Bool). if x && may_break p.before c then Cut else Nothing) (is_open_so p e)
+
+pub none_held : (p : Place) (c : ℕ) → (c == newline) ≡ false → holds p c ≡ false
+none_held p c line = ap (λ (x : Bool). x && may_join p) line
+
+pub quiet_put : (p : Place) (c : ℕ) (bytes : List ℕ) → is_quiet p ≡ true → (c == newline) ≡ false → (c == 92) ≡ false
+    → put_at p c bytes ≡ text_of (if may_break p.before c then Cut else Nothing) ++ bytes
+quiet_put p c bytes e line slash =
+    ap (λ (x : Point). text_of x ++ (if holds p c then [] else bytes)) (quiet_point p c e slash)
+    ∙ ap (λ (x : Bool). text_of (if may_break p.before c then Cut else Nothing) ++ (if x then [] else bytes)) (none_held p c line)
+
+-- ---- a letter beyond ASCII
+
+no_line : (c : ℕ) → 128 ≤ c → (c == newline) ≡ false
+no_line c beyond = grind (arith, nat_tests)
+
+no_slash : (c : ℕ) → 128 ≤ c → (c == 92) ≡ false
+no_slash c beyond = grind (arith, nat_tests)
+
+pub letter_passed : (p : Place) (c : ℕ) → is_quiet p ≡ true → 128 ≤ c → passed p c ≡ record p { before = c }
+letter_passed p c e beyond = quiet_passed p c e (no_line c beyond) (no_slash c beyond)
+
+pub letter_put : (p : Place) (c : ℕ) (bytes : List ℕ) → is_quiet p ≡ true → 128 ≤ c
+    → put_at p c bytes ≡ text_of (cut_between (side p.before) (side c)) ++ bytes
+letter_put p c bytes e beyond = quiet_put p c bytes e (no_line c beyond) (no_slash c beyond)
