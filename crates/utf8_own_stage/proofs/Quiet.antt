@@ -1,7 +1,9 @@
 -- Where each character is printed as it comes, a letter is printed after what stands before it, and so is the next one.
-use Rattle.std.proofs.Common.{◌≡◌, ℕ, ◌≤◌, List, [], ◌∷◌, ◌++◌, Bool, true, false, not, ◌&&◌, ◌||◌, ◌==◌, if◌then◌else◌, refl, sym, ◌∙◌, ap, arith}
+use Rattle.std.proofs.Common.{◌≡◌, ℕ, ◌≤◌, List, [], ◌∷◌, ◌++◌, Bool, true, false, not, ◌&&◌, ◌||◌, ◌==◌, if◌then◌else◌, refl, sym, ◌∙◌, ap, arith, rules}
 use Rattle.std.proofs.lemmas.Bool.Decides.{nat_tests}
-use Rattle.utf8_own_characters.specs.Breaking.{may_break}
+use Rattle.ucd_breaks.specs.LineBreak.{line_break}
+use Rattle.ucd_breaks.specs.declared.LineBreak.{LineBreak}
+use Rattle.utf8_own_characters.specs.Cluster.{is_wide, single}
 use Rattle.utf8_own_characters.proofs.Tests.{and_first, and_second, if_not, not_true}
 use Rattle.utf8_own_stage.specs.declared.points.Escape.{Escape}
 use Rattle.utf8_own_stage.specs.declared.points.Escape.TheVariants as escapes
@@ -11,9 +13,9 @@ use Rattle.utf8_own_stage.specs.declared.points.Place.{Place}
 use Rattle.utf8_own_stage.specs.declared.points.Point.{Point}
 use Rattle.utf8_own_stage.specs.declared.points.Point.TheVariants.{Nothing, Cut, Newline, Joint}
 use Rattle.utf8_own_stage.specs.Coding.{put_at}
-use Rattle.utf8_own_stage.specs.Letters.{cut_between, is_printed, is_quiet, side}
+use Rattle.utf8_own_stage.specs.Letters.{cut_between, is_common, is_ideographic, is_printed, is_quiet}
 use Rattle.utf8_own_stage.specs.Points.{character_by, going_on, holds, is_format, is_open, is_plain, line_ended, line_of_escape, may_cut, may_join, newline, passed, passed_by, point, text_of}
-use Rattle.utf8_own_characters.specs.Breaking.{is_east_asian}
+use Rattle.utf8_own_characters.specs.Breaking.{is_east_asian, is_korean, may_begin, may_break, may_end}
 
 is_line : (p : Place) → is_quiet p ≡ true → is_printed p.line ≡ true
 is_line p e = and_first (is_printed p.line) (is_open p) (and_first (is_printed p.line && is_open p) (not p.waits) e)
@@ -82,5 +84,15 @@ pub letter_passed : (p : Place) (c : ℕ) → is_quiet p ≡ true → 128 ≤ c 
 letter_passed p c e beyond = quiet_passed p c e (no_line c beyond) (no_slash c beyond)
 
 pub letter_put : (p : Place) (c : ℕ) (bytes : List ℕ) → is_quiet p ≡ true → 128 ≤ c
-    → put_at p c bytes ≡ text_of (cut_between (side p.before) (side c)) ++ bytes
+    → put_at p c bytes ≡ text_of (cut_between p.before c) ++ bytes
 letter_put p c bytes e beyond = quiet_put p c bytes e (no_line c beyond) (no_slash c beyond)
+
+-- ---- between common letters a line may be cut
+
+common_breaks : (a b : LineBreak) (x y : Bool) → is_ideographic a && x ≡ true → is_ideographic b && y ≡ true
+    → ((x && not (is_korean a)) || (y && not (is_korean b))) && may_end a && may_begin b ≡ true
+common_breaks a b x y p q = search rules
+
+pub common_cut : (a b : ℕ) → is_common a ≡ true → is_common b ≡ true → cut_between a b ≡ Cut
+common_cut a b p q =
+    ap (λ (x : Bool). if x then Cut else Nothing) (common_breaks (line_break a) (line_break b) (is_wide (single a)) (is_wide (single b)) p q)

@@ -1,11 +1,13 @@
 -- Letters of three bytes, which are read at once, and how lines may be cut between them.
 use lib.Utf8.{scalar}
-use Rattle.std.specs.Prelude.{◌≡◌, ℕ, ◌≤◌, List, length, get_or, Bool, true, false, not, ◌&&◌, ◌||◌, if◌then◌else◌, None, Some}
+use Rattle.std.specs.Prelude.{◌≡◌, ℕ, ◌≤◌, List, length, get_or, Bool, true, false, not, ◌&&◌, if◌then◌else◌, None, Some}
 use Rattle.ucd_breaks.specs.LineBreak.{line_break}
+use Rattle.ucd_breaks.specs.declared.LineBreak.{LineBreak}
+use Rattle.ucd_breaks.specs.declared.LineBreak.TheVariants as class
 use Rattle.utf8_own_characters.specs.declared.listening.Listener.{Listener}
 use Rattle.utf8_own_characters.specs.declared.listening.Listened.{Listened}
-use Rattle.utf8_own_characters.specs.Breaking.{is_east_asian, may_begin, may_end}
-use Rattle.utf8_own_characters.specs.Cluster.{is_mark, single}
+use Rattle.utf8_own_characters.specs.Breaking.{may_break}
+use Rattle.utf8_own_characters.specs.Cluster.{is_mark, is_wide, single}
 use Rattle.utf8_own_characters.specs.Decoding.{none}
 use Rattle.utf8_own_characters.specs.Listening.{begins_three, is_unseen, read}
 use Rattle.utf8_own_stage.specs.declared.points.Line.{Line}
@@ -13,18 +15,20 @@ use Rattle.utf8_own_stage.specs.declared.points.Line.TheVariants as lines
 use Rattle.utf8_own_stage.specs.declared.points.Place.{Place}
 use Rattle.utf8_own_stage.specs.declared.points.Point.{Point}
 use Rattle.utf8_own_stage.specs.declared.points.Point.TheVariants.{Nothing, Cut}
-use Rattle.utf8_own_stage.specs.declared.sides.Side.{Side}
 use Rattle.utf8_own_stage.specs.Points.{is_open}
 
-abbrev pub side : ℕ → Side
-side c = record { is_east_asian = is_east_asian c; may_end = may_end (line_break c); may_begin = may_begin (line_break c) }
+-- the class of ideographs and most kana
+abbrev pub is_ideographic : LineBreak → Bool
+is_ideographic class.Ideographic = true
+is_ideographic _ = false
 
-abbrev pub may_break_between : Side → Side → Bool
-may_break_between a b = (a.is_east_asian || b.is_east_asian) && a.may_end && b.may_begin
+-- one of two columns: between two of these a line may be cut
+abbrev pub is_common : ℕ → Bool
+is_common c = is_ideographic (line_break c) && is_wide (single c)
 
--- what goes out between them
-abbrev pub cut_between : Side → Side → Point
-cut_between a b = if may_break_between a b then Cut else Nothing
+-- what goes out between two letters
+abbrev pub cut_between : ℕ → ℕ → Point
+cut_between a b = if may_break a b then Cut else Nothing
 
 -- a letter is held, on which marks may come
 abbrev pub holding : ℕ → Listener

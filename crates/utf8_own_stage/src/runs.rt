@@ -6,12 +6,13 @@ ghost use Rattle.utf8_own_characters.specs.Table.{Good};
 ghost use Rattle.utf8_own_stage.specs.Coding as coding;
 ghost use Rattle.utf8_own_stage.specs.Letters as specs;
 ghost use Rattle.utf8_own_stage.specs.Points.{passed, text_of};
+ghost use Rattle.utf8_own_stage.specs.declared.points.Point.TheVariants.{Cut};
 
 use super::coding::{put_cluster, put_done};
 use super::points::Place;
-use super::sides::Side;
+use super::sides::is_common;
 use nr_vectors::slice_vec::SliceVec;
-use utf8_own_characters::{Cluster, Listener, OwnTable, Part, is_mark};
+use utf8_own_characters::{Cluster, Listener, OwnTable, Part, is_mark, may_break_between};
 
 /// Whether these are three bytes of which the first begins a character of three, and the others go one on.
 #[inline(always)]
@@ -55,45 +56,46 @@ pub(crate) fn letter_of(bytes: &[u8]) -> Option<char>
     letter_by(number_of(bytes[0], bytes[1], bytes[2]))
 }
 
-/// Puts a point, if a line may be cut between two letters.
+/// Puts a point, if a line may be cut between two letters; it is known of some that it may.
 #[inline(always)]
-fn put_cut(last: Side, side: Side, out: &mut SliceVec<'_, u8>)
+fn put_cut(last: char, letter: char, both: bool, out: &mut SliceVec<'_, u8>)
+    requires common { both ≡ true → specs.cut_between last letter ≡ Cut }
     requires room { length out.old.items + 5 ≤ out.old.capacity }
-    ensures items { out.new.items ≡ out.old.items ++ text_of (specs.cut_between last side) }
+    ensures items { out.new.items ≡ out.old.items ++ text_of (specs.cut_between last letter) }
     ensures few { length out.new.items ≤ length out.old.items + 5 }
     ensures room { out.new.capacity ≡ out.old.capacity }
 {
-    if last.may_break_before(side) {
+    if both || may_break_between(last, letter) {
         out.extend(b"\\(zb");
     }
 }
 
-/// Puts a letter that was held after what is printed before it. Tells how lines may be cut beside it.
+/// Puts a letter that was held after what is printed before it, where it is known whether that is common. Tells whether the letter is.
 #[inline(always)]
 fn put_next(
     letter: char,
-    last: Side,
+    last: bool,
     place: &mut Place,
     table: &OwnTable<'_>,
     out: &mut SliceVec<'_, u8>,
-) -> Side
+) -> bool
     requires good { Good table.now }
     requires quiet { specs.is_quiet place.old ≡ true }
     requires beyond { 128 ≤ letter }
-    requires last { last ≡ specs.side place.old.before }
+    requires last { last ≡ specs.is_common place.old.before }
     requires room { length out.old.items + 32 ≤ out.old.capacity }
     ensures items { out.new.items ≡ out.old.items ++ coding.said_cluster table.now place.old (Some (cluster.single letter)) }
     ensures place { place.new ≡ passed place.old letter }
     ensures quiet { specs.is_quiet place.new ≡ true }
-    ensures side { result ≡ specs.side place.new.before }
+    ensures common { result ≡ specs.is_common place.new.before }
     ensures few { length out.new.items ≤ length out.old.items + 32 }
     ensures room { out.new.capacity ≡ out.old.capacity }
 {
-    let side = Side::of(letter);
-    put_cut(last, side, out);
+    let common = is_common(letter);
+    put_cut(place.before, letter, last && common, out);
     put_cluster(&Cluster::single(letter), table, out);
     place.before = letter;
-    side
+    common
 }
 
 /// The letter that is held, and how many bytes were read.
@@ -125,7 +127,7 @@ fn put_more(
 {
     let mut letter = first;
     let mut count = 0;
-    let mut last = Side::of(place.before);
+    let mut last = is_common(place.before);
     while let Some(next) = letter_of(&bytes[count..]) {
         last = put_next(letter, last, place, table, out);
         letter = next;

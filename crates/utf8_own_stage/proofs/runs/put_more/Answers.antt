@@ -29,7 +29,7 @@ loop-next-preserved c =
       few = (let said = put.few in let few = before.few in omega (arith, said, few));
       beyond = begins.beyond;
       quiet = put.quiet;
-      side = put.side;
+      common = put.common;
       so_far = subst (λ (z : Place). After l (holding d) p z bs (n + 3)) (sym put.place) (after_more l m p q bs n d before.so_far begins);
       items =
           put.items

@@ -1,7 +1,7 @@
 -- What was put so far is what comes of the bytes that were read.
 use Rattle.std.proofs.Common.{◌≡◌, ◌+◌, ◌-◌, ◌*◌, ◌≤◌, ◌++◌, length, take, true}
 use Rattle.utf8_own_stage.specs.Coding.{said_of}
-use Rattle.utf8_own_stage.specs.Letters.{holding, is_quiet, side}
+use Rattle.utf8_own_stage.specs.Letters.{holding, is_common, is_quiet}
 use Rattle.utf8_own_stage.proofs.LettersMore.{After}
 use Rattle.utf8_own_stage.proofs.runs.put_more.Given as goal
 
@@ -12,7 +12,7 @@ invariant-loop-next l = record {
   few : length l.out.items ≤ length l.fn.out.items + 32 * l.count;
   beyond : 128 ≤ l.letter;
   quiet : is_quiet l.place ≡ true;
-  side : l.last ≡ side l.place.before;
+  common : l.last ≡ is_common l.place.before;
   so_far : After (holding l.fn.first) (holding l.letter) l.fn.place l.place l.bytes l.count;
   items : l.out.items ≡ l.fn.out.items ++ said_of l.table (holding l.fn.first) l.fn.place (take l.count l.bytes);
 }
