@@ -1,5 +1,6 @@
 -- Letters of three bytes one after another: of each comes what was held before it.
-use Rattle.std.proofs.Common.{◌≡◌, ℕ, List, [], ◌∷◌, ◌++◌, ◌+◌, suc, zero, length, take, drop, get_or, refl, sym, ◌∙◌, ap, append-nil, append_assoc, arith}
+use Rattle.std.proofs.Common.{◌≡◌, ℕ, List, [], ◌∷◌, ◌++◌, ◌+◌, suc, zero, length, take, drop, get_or, refl, sym, ◌∙◌, ap, append-nil, append_assoc, arith, ◌<◌}
+use Rattle.std.proofs.lemmas.List.{take_more}
 use Rattle.utf8_own_characters.specs.declared.listening.Listener.{Listener}
 use Rattle.utf8_own_characters.specs.declared.listening.Listened.{Listened}
 use Rattle.utf8_own_characters.specs.Listening.{after, read}
@@ -99,3 +100,35 @@ said_rest t l p bs c n is =
     ∙ ap (λ (x : Place). said_of t l p (take 3 bs) ++ said_of t (after l (take 3 bs)) x (take n (drop 3 bs))) (sym one.placed)
     ∙ sym (said-append t l p (take 3 bs) (take n (drop 3 bs)))
     ∙ ap (said_of t l p) (sym (take_plus 3 n bs))
+
+-- ---- of one more byte
+
+pub after_one : (l m : Listener) (p q : Place) (bs : List ℕ) (n : ℕ) → n < length bs → After l m p q bs n
+    → After l (after m (get_or bs n 0 ∷ [])) p (place_after_all m q (get_or bs n 0 ∷ [])) bs (n + 1)
+after_one l m p q bs n inside so =
+    let one : List ℕ = get_or bs n 0 ∷ [] in
+    let more = take_more bs n 0 inside in
+    record {
+      heard =
+          ap (λ (x : Listener). after x one) so.heard
+          ∙ sym (after-append l (take n bs) one)
+          ∙ ap (after l) (sym more);
+      placed =
+          ap (λ (x : Listener). place_after_all x q one) so.heard
+          ∙ ap (λ (x : Place). place_after_all (after l (take n bs)) x one) so.placed
+          ∙ sym (place-append l p (take n bs) one)
+          ∙ ap (place_after_all l p) (sym more);
+    }
+
+pub said_one : (t : Characters) (l m : Listener) (p q : Place) (bs : List ℕ) (n : ℕ) → n < length bs → After l m p q bs n
+    → said_of t l p (take n bs) ++ said_of t m q (get_or bs n 0 ∷ []) ≡ said_of t l p (take (n + 1) bs)
+said_one t l m p q bs n inside so =
+    let one : List ℕ = get_or bs n 0 ∷ [] in
+    ap (λ (x : Listener). said_of t l p (take n bs) ++ said_of t x q one) so.heard
+    ∙ ap (λ (x : Place). said_of t l p (take n bs) ++ said_of t (after l (take n bs)) x one) so.placed
+    ∙ sym (said-append t l p (take n bs) one)
+    ∙ ap (said_of t l p) (sym (take_more bs n 0 inside))
+
+-- of these bytes nothing was read
+pub after_none : (l : Listener) (p : Place) (bs : List ℕ) → After l l p p bs 0
+after_none l p bs = record { heard = refl; placed = refl }

@@ -6,4 +6,5 @@ pub mod LettersMore
 pub mod NoPoints
 pub mod OnlyPoints
 pub mod Parts
+pub mod PlainRead
 pub mod Quiet

@@ -1,4 +1,5 @@
 pub mod Coding
 pub mod Laws
 pub mod Letters
+pub mod Plain
 pub mod Points

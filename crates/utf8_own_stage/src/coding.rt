@@ -5,6 +5,7 @@ ghost use Rattle.utf8_own_characters.specs.Table.{Good};
 ghost use Rattle.utf8_own_stage.specs.Coding as specs;
 ghost use Rattle.utf8_own_stage.specs.Points.{left, passed, point, text_of};
 
+use super::plain::{is_plain, is_ready, put_plain};
 use super::points::{Place, Point};
 use super::runs::{letter_of, put_letters};
 use nr_vectors::slice_vec::SliceVec;
@@ -172,6 +173,9 @@ fn put_first(
     ensures some { 0 < result }
     ensures within { result ≤ length bytes.now }
 {
+    if is_plain(bytes[0]) && is_ready(listener, place) {
+        return put_plain(bytes, listener, place, out);
+    }
     if bytes[0] < 128 {
         put_one(bytes, listener, place, table, out);
         return 1;

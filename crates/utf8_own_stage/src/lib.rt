@@ -5,6 +5,7 @@
 
 mod coding;
 pub mod laws;
+mod plain;
 mod points;
 mod runs;
 mod sides;

@@ -14,7 +14,7 @@ returns-clause-place c = sym (letter_passed c.args.place.now c.args.letter c.req
 
 pub put_cut-requires-clause-common : goal.put_cut-requires-clause-common
 put_cut-requires-clause-common c = λ is. elim c.if-last.branch [
-  then-last w ↦
+  | then-last w ↦
       common_cut c.args.place.now.before c.args.letter (sym c.requires.last ∙ w.if-last.true)
       (sym c.is_common-common.ensures ∙ sym w.put_cut-is ∙ is)
   | else-last w ↦ not_both c.if-last.put_cut is (w.put_cut-is ∙ w.if-last.false)
