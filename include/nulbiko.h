@@ -235,7 +235,7 @@ enum nulbiko_outcome nulbiko_utf8(enum nulbiko_table table, bool escapes, const 
  * nulbiko_document chooses, with NULBIKO_CHOSEN. */
 enum nulbiko_table nulbiko_choose_own(const void *page, size_t length);
 
-/* nulbiko_preconv, nulbiko_tbl and nulbiko_utf8 with a table of the page's own: each looks at the first MiB of the page, as it
+/* nulbiko_preconv, nulbiko_tbl and nulbiko_utf8 with a table of the page's own: each looks at the first 512 KiB of the page, as it
  * was before nulbiko_mdoc, and makes the same table of it. Where the page has more characters than the table has room for, the
  * others are what they look like. Each takes 40 kB of memory and a copy of the page more than with a fixed table, and 480 kB of
  * the stack, where those take 100 (plain Rust). */

@@ -17,7 +17,7 @@ use Rattle.filters.specs.declared.endings.Ending.{Ending}
 
 -- ---- what is read
 
--- the first MiB of a text
+-- the first 512 KiB of a text
 abbrev pub prefix_in : List ℕ → List ℕ
 prefix_in bytes = prefix_of (text_of bytes)
 

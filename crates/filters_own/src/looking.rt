@@ -43,7 +43,7 @@ fn cells_of(alloc: Global, prefix: &[u8]) -> Result<Cells, AllocError>
 
 /// Looks at the file of this name, and gives the characters of its table.
 ///
-/// Proved: The table of a file has the most frequent characters of what its first MiB prints, through mdoc(7) where it is of
+/// Proved: The table of a file has the most frequent characters of what its first 512 KiB print, through mdoc(7) where it is of
 /// that, and what frames are drawn with. (`look_at`)
 pub fn look_at<'a, P: Paths, I: Read + Copy + Drop>(
     name: &'a str,

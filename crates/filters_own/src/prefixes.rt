@@ -16,7 +16,7 @@ use utf8_own_page::MORE_LOOKED_AT;
 
 /// Room for the first bytes of a page, of which its own table is made.
 pub fn room_for(alloc: Global) -> Result<Vec<u8>, AllocError>
-    ensures { IfOk result (λ room. vec_len room ≡ 1048576) }
+    ensures { IfOk result (λ room. vec_len room ≡ 524288) }
 {
     vec![in alloc; 0u8; MORE_LOOKED_AT]
 }
@@ -76,9 +76,9 @@ fn read_prefix<R: Source>(input: &mut R, prefix: &mut SliceVec<'_, u8>) -> Resul
     Ok(())
 }
 
-/// The first MiB of the text of this name, under its coding, goes into an empty room for so many. Tells how many bytes.
+/// The first 512 KiB of the text of this name, under its coding, go into an empty room for so many. Tells how many bytes.
 ///
-/// Proved: The first MiB of a text is read under its coding; where it can't be opened or read, that is reported by its name.
+/// Proved: The first 512 KiB of a text are read under its coding; where it can't be opened or read, that is reported by its name.
 /// (`first_of`)
 pub fn first_of<'a, P: Paths, I: Read + Copy + Drop>(
     name: &'a str,
@@ -87,7 +87,7 @@ pub fn first_of<'a, P: Paths, I: Read + Copy + Drop>(
     prefix: &mut SliceVec<'_, u8>,
 ) -> Result<usize, Ending<'a>>
     requires empty { prefix.old.items ≡ [] }
-    requires room { prefix.old.capacity ≡ 1048576 }
+    requires room { prefix.old.capacity ≡ 524288 }
     ensures reads { ReadsOf (MayCome (I.remaining disk.old.standard) (P.may_open disk.old.paths))
         (P.asked disk.old.paths) (P.asked disk.new.paths) name.now
         (λ left _. IsPrefixIn left prefix.new.items) result }

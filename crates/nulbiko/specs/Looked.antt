@@ -20,7 +20,7 @@ use Rattle.nulbiko.specs.declared.reported.Report.{Report}
 abbrev pub all_stages : Stages
 all_stages = record { mdoc = true; characters = true }
 
--- what its first MiB prints, with what frames are drawn with where it has tables: as of a whole page
+-- what its first 512 KiB print, with what frames are drawn with where it has tables: as of a whole page
 abbrev pub counts_in : List ℕ → List Count
 counts_in text = counts_by all_stages (has_tables text) text
 

@@ -34,7 +34,7 @@ stages_of setup = record { mdoc = setup.options.mdoc; characters = true }
 abbrev pub asks_for_own : DocumentSetup → List ℕ → Bool
 asks_for_own setup text = (setup.options.table == 6) && (not (setup.options.form == 0) && may_need_own text)
 
--- what the first MiB of a page prints, with what frames are drawn with where tables are set
+-- what the first 512 KiB of a page print, with what frames are drawn with where tables are set
 abbrev pub counts_by : Stages → Bool → List ℕ → List Count
 counts_by stages sets text = counts_of 4352 sets (plain_of stages Utf8 (prefix_of text))
 

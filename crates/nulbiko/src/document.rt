@@ -344,7 +344,7 @@ pub(crate) fn print_in(
 /// not all fit the number is 4, and as many stand there as fit; where a limit would be passed it is 1, and the pages that
 /// had ended stand there. So it is where the text and what mdoc makes of it have less than 2^40 bytes. (`printed` of `nulbiko_document_lent`)
 /// Proved: **A page in UTF-8 that takes its table has one of its own** exactly where the fixed one that it takes lacks a letter with its
-/// marks that its first MiB prints. Then it goes out as `print_shown` of document_printing shows it, of the page in the bytes of that
+/// marks that its first 512 KiB print. Then it goes out as `print_shown` of document_printing shows it, of the page in the bytes of that
 /// table, which has the most frequent ones that have room. So it is where what each stage is given has less than 2^40 bytes.
 /// (`takes_own` and `PrintsOwn` in Own.antt)
 /// Proved: The number is 2 exactly where a limit or a number is out of its range. Then, and where memory is refused (5),

@@ -35,7 +35,7 @@ fn counts_in(alloc: Global, text: &[u8]) -> Result<Vec<Count>, AllocError>
 
 /// The characters of the table of a page, whose text is read under its coding.
 ///
-/// Proved: The table of a page has the most frequent characters of what its first MiB prints, through mdoc(7) where it is
+/// Proved: The table of a page has the most frequent characters of what its first 512 KiB print, through mdoc(7) where it is
 /// of that, and where it has tables what frames are drawn with: that of a whole page that takes one. (`look_at`)
 pub(crate) fn look_at(alloc: Global, page: &[u8]) -> Result<Cells, AllocError>
     ensures { LookIsShort all_stages (prefix_of (text_of page.now)) →

@@ -31,7 +31,7 @@ pub record EndsWith (held : Option (List ℕ)) (untold : SinkFailures) (line : L
 
 -- ---- of the table of a page
 
--- THOSE THAT IT HAS NO ROOM FOR, of what the first MiB of the page prints
+-- THOSE THAT IT HAS NO ROOM FOR, of what the first 512 KiB of the page print
 abbrev pub AreLeftIn : Option (List ℕ) → List ℕ → Type 0
 AreLeftIn None names = ⊤
 AreLeftIn (Some bytes) names =

@@ -77,7 +77,7 @@ impl Turns for OwnConverter<'_> {
 /// Looks at a file, and turns the texts of these names into the bytes of the table of its characters. Where all went out, those of them
 /// are reported that the table has no room for.
 ///
-/// Proved: Where all went out, the last line names the most frequent eight of the characters that were counted in the first MiB of the
+/// Proved: Where all went out, the last line names the most frequent eight of the characters that were counted in the first 512 KiB of the
 /// file whose table it is and have no room in it, and says how many more there are; there is no line where all have room. (`turn_own`;
 /// `AreReported` in Unshown.antt)
 pub(crate) fn turn_own<'a, P: Paths, I: Read + Copy + Drop, W: Sink, E: Sink>(

@@ -63,7 +63,7 @@ stages_with other = record { mdoc = false; characters = true }
 
 -- tables are set where one begins in what was looked at, or more may follow
 abbrev pub may_have_tables : List ℕ → Bool
-may_have_tables first = (length first == 1048576) || has_tables first
+may_have_tables first = (length first == 524288) || has_tables first
 
 abbrev pub plan_for : Asked → Device → Bool → Macros → List ℕ → Plan
 plan_for job device shows kind first = record {

@@ -44,8 +44,8 @@ fn count_prefix(plan: &Plan, prefix: &[u8], alloc: Global) -> Result<Vec<Count>,
 
 /// The characters of the table of its own that a page has which begins with these bytes; none where a fixed table serves.
 ///
-/// Proved: A page has a table of its own exactly where UTF-8 is printed, its first MiB has a character beyond ASCII,
-/// or names one by its number or a letter that English lacks by its name, and the fixed table of its plan lacks a cluster of
+/// Proved: A page has a table of its own exactly where UTF-8 is printed, its first 512 KiB have a character beyond ASCII,
+/// or name one by its number or a letter that English lacks by its name, and the fixed table of its plan lacks a cluster of
 /// what the stages make of the bytes that were looked at. (`own_cells`; `needs_own` in Own.antt)
 pub(crate) fn own_cells(
     plan: &Plan,

@@ -91,7 +91,7 @@ pub(crate) fn plan_of(
 
 /// Whether more of a page may come than was looked at.
 fn is_cut(prefix: &[u8]) -> bool
-    ensures { result ≡ (length prefix.now == 1048576) }
+    ensures { result ≡ (length prefix.now == 524288) }
 {
     prefix.len() == MORE_LOOKED_AT
 }

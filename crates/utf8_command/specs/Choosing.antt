@@ -23,7 +23,7 @@ has_table_from begins (byte ∷ bytes) =
 abbrev pub has_tables : List ℕ → Bool
 has_tables page = has_table_from true page
 
--- ---- the choice, by the first MiB of a page
+-- ---- the choice, by the first 512 KiB of a page
 
 -- the fixed table
 abbrev pub fixed_for : List ℕ → FixedTable

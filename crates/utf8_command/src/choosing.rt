@@ -88,7 +88,7 @@ fn put_choice<'a, W: Sink>(before: &str, file: &str, output: W) -> (Ending<'a>, 
 
 /// Chooses a table for the text of this name, and prints its name.
 ///
-/// Proved: `own:FILE` is printed exactly where the first MiB of a file has a character beyond ASCII, or names one by its
+/// Proved: `own:FILE` is printed exactly where the first 512 KiB of a file have a character beyond ASCII, or name one by its
 /// number or a letter that English lacks by its name, and the fixed table that it takes lacks some of what it prints; else the
 /// name of that table, which has most of its characters. (`needs_own` in Choosing.antt)
 pub(crate) fn choose_for<'a, P: Paths, I: Read + Copy + Drop, W: Sink>(

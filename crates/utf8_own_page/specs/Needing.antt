@@ -35,9 +35,9 @@ abbrev pub is_beyond_ascii : List ℕ → Bool
 is_beyond_ascii [] = false
 is_beyond_ascii (b ∷ bs) = nat_le 128 b || ((b == code "\\") && names_beyond bs) || is_beyond_ascii bs
 
--- what is looked at of a page: its first MiB
+-- what is looked at of a page: its first 512 KiB
 abbrev pub prefix_of : List ℕ → List ℕ
-prefix_of page = take 1048576 page
+prefix_of page = take 524288 page
 
 -- that says whether it may
 abbrev pub may_need_own : List ℕ → Bool

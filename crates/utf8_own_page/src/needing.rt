@@ -8,7 +8,7 @@ use utf8_characters::FixedTable as Fixed;
 use utf8_own_characters::{Cluster, Count};
 
 /// The first bytes of a page, which say whether it may need a table of its own, and of which it is made.
-pub const MORE_LOOKED_AT: usize = 1_048_576;
+pub const MORE_LOOKED_AT: usize = 524_288;
 
 /// How many bytes are looked at together.
 const PIECE: usize = 32;
@@ -133,7 +133,7 @@ fn is_beyond_ascii(page: &[u8]) -> bool
     false
 }
 
-/// Whether no fixed table may have all that a page prints, by its first MiB: there are characters beyond ASCII, one is named by its
+/// Whether no fixed table may have all that a page prints, by its first 512 KiB: there are characters beyond ASCII, one is named by its
 /// number, or a letter that the table of English lacks by its name.
 pub fn may_need_own(page: &[u8]) -> bool
     ensures { result ≡ specs.may_need_own page.now }
@@ -141,7 +141,7 @@ pub fn may_need_own(page: &[u8]) -> bool
     is_beyond_ascii(prefix_of(page))
 }
 
-/// What is looked at of a page: its first MiB.
+/// What is looked at of a page: its first 512 KiB.
 pub fn prefix_of(page: &[u8]) -> &[u8]
     ensures { result.now ≡ specs.prefix_of page.now }
 {

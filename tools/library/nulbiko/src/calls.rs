@@ -195,7 +195,7 @@ pub fn choose_own(page: &[u8]) -> Option<Choice> {
     }
 }
 
-/// [`preconv`] with a table of the page's own, of what its first MiB prints, as it was before [`mdoc()`].
+/// [`preconv`] with a table of the page's own, of what its first 512 KiB print, as it was before [`mdoc()`].
 ///
 /// # Errors
 ///
