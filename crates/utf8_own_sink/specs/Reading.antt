@@ -1,12 +1,15 @@
 -- What goes out byte by byte.
 use Prim.Native.Char.{code}
-use Rattle.std.specs.Prelude.{ℕ, List, [], ◌∷◌, ◌++◌, Bool, true, false, not, ◌==◌, ◌&&◌, ◌||◌, nat_le}
-use Rattle.std.specs.Prelude.{nat_lt, is_some, if◌then◌else◌, Option, None, Some}
+use Rattle.std.specs.Prelude.{◌≡◌, ◌≢◌, ◌<◌, ℕ, List, [], ◌∷◌, ◌++◌, Bool, true, false, not, ◌==◌, ◌&&◌, ◌||◌}
+use Rattle.std.specs.Prelude.{nat_le, nat_lt, is_some, if◌then◌else◌, Option, None, Some}
 use Rattle.nr_vectors.specs.declared.cell.Look.{Look}
 use Rattle.nr_vectors.specs.declared.cell.Look.TheVariants.{Plain}
 use Rattle.utf8_converter.specs.Cells.{is_same}
+use Rattle.utf8_own_characters.specs.Cluster.{single}
 use Rattle.utf8_own_characters.specs.Table.{Characters, is_lead}
-use Rattle.utf8_own_sink.specs.Cells.{alone, cells, lead_after, letters, letters_of, plain, strikes, struck}
+use Rattle.utf8_own_characters.specs.declared.cluster.Cluster.{Cluster}
+use Rattle.utf8_own_characters.specs.declared.reading.Read.{Read}
+use Rattle.utf8_own_sink.specs.Cells.{alone, cells, lead_after, letters, letters_of, look_of, plain, strikes, struck}
 use Rattle.utf8_own_sink.specs.Letters.{Letter, drawn, first_way, is_plain, printed, way_past}
 use Rattle.utf8_own_sink.specs.declared.cells.Cell.{Cell}
 use Rattle.utf8_own_sink.specs.declared.cells.Half.{Half}
@@ -43,6 +46,24 @@ passes r c = is_as_is c.byte && is_same c.look Plain && not (is_some r.lead) && 
 -- the first half of a pair waits for the other one
 abbrev pub holds : Characters → Reader → Cell → Bool
 holds t r c = nat_le 128 c.byte && not (is_some r.lead) && is_lead t c.byte
+
+-- a letter goes out without what stands before it: it is plain, no look is open, and nothing else comes
+abbrev pub goes_plain : Reader → Cell → Read → Bool
+goes_plain r c read =
+    (read.blanks == 0) && not (is_some read.held) && is_same (look_of r.lead read.blanks c.look) Plain && is_plain r.way
+
+-- a cluster is a letter without marks, neither a blank nor a control character
+pub record IsBareLetter (c : Cluster) (letter : ℕ) : Type 0 where
+  pub alone : c ≡ single letter
+  pub beyond_blank : 32 < letter
+  pub no_delete : letter ≢ 127
+
+-- such a letter was read of a cell, and goes out so
+pub record IsBare (r : Reader) (c : Cell) (read : Read) (letter : ℕ) : Type 0 where
+  pub plain : goes_plain r c read ≡ true
+  pub is_read : read.cluster ≡ Some (single letter)
+  pub beyond_blank : 32 < letter
+  pub no_delete : letter ≢ 127
 
 -- ---- a byte comes, where nothing of a cell is read
 

@@ -1,10 +1,10 @@
 //! The bytes of cells are read, one after the other, and what they show goes out.
-ghost use Rattle.std.specs.Prelude.{◌≡◌, ◌+◌, ◌≤◌, [], ◌∷◌, ◌++◌, length};
+ghost use Rattle.std.specs.Prelude.{◌≡◌, ◌+◌, ◌≤◌, [], ◌∷◌, ◌++◌, length, IfSome};
 ghost use Rattle.utf8_own_sink.specs.Cells as specs;
-ghost use Rattle.utf8_own_sink.specs.Reading.{after, begun_after, begun_said, cell_after, cell_said, drawn_all, ended, first, holds, next_after, next_said, passes, released, released_said, said, ways_past, with_half};
+ghost use Rattle.utf8_own_sink.specs.Reading.{IsBare, IsBareLetter, after, begun_after, begun_said, cell_after, cell_said, drawn_all, ended, first, goes_plain, holds, next_after, next_said, passes, released, released_said, said, ways_past, with_half};
 ghost use Rattle.utf8_own_sink.specs.declared.cells.Half.TheVariants.{Nothing};
 
-use super::letters::Way;
+use super::letters::{Way, put_character};
 use nr_vectors::cell::Look;
 use nr_vectors::slice_vec::SliceVec;
 use utf8_own_characters::{Cluster, OwnTable, Read};
@@ -198,6 +198,18 @@ fn put_read(way: Way, lead: Option<Cell>, look: Look, read: Read, out: &mut Slic
     put_cluster(way, read.cluster, look_of(lead, read.blanks, look), out)
 }
 
+/// The letter of a cluster without marks that is neither a blank nor a control character.
+#[inline(always)]
+fn bare_letter(cluster: &Cluster) -> Option<char>
+    ensures { IfSome result (λ letter. IsBareLetter cluster.now letter) }
+{
+    let code = u32::from(cluster.letter);
+    if code > 32 && code != 127 && cluster.is_same(&Cluster::single(cluster.letter)) {
+        return Some(cluster.letter);
+    }
+    None
+}
+
 impl Reader {
     /// Nothing was read.
     pub(crate) fn new(escapes: bool) -> Reader
@@ -230,6 +242,28 @@ impl Reader {
         cell.byte >= 128 && self.lead.is_none() && table.is_lead(cell.byte)
     }
 
+    /// Whether a letter that was read of a cell goes out without what stands before it: it is plain, no look is open, and nothing else comes.
+    #[inline(always)]
+    fn goes_plain(&self, cell: Cell, read: &Read) -> bool
+        ensures { result ≡ goes_plain self.now cell read.now }
+    {
+        read.blanks == 0
+            && read.held.is_none()
+            && matches!(look_of(self.lead, read.blanks, cell.look), Look::Plain)
+            && self.way.is_plain()
+    }
+
+    /// The letter that was read of a cell, where it goes out as its text alone.
+    #[inline(always)]
+    fn bare(&self, cell: Cell, read: &Read) -> Option<char>
+        ensures { IfSome result (λ letter. IsBare self.now cell read.now letter) }
+    {
+        match read.cluster {
+            Some(cluster) if self.goes_plain(cell, read) => bare_letter(&cluster),
+            _ => None,
+        }
+    }
+
     /// A cell goes out, or waits for the other half of its pair: at most 99 bytes.
     #[inline(always)]
     fn put_cell(&mut self, cell: Cell, table: &OwnTable<'_>, out: &mut SliceVec<'_, u8>)
@@ -254,6 +288,12 @@ impl Reader {
             return;
         }
         let read = read_byte(table, byte_of(self.lead), cell.byte);
+        if let Some(letter) = self.bare(cell, &read) {
+            put_character(letter, out);
+            self.lead = None;
+            self.before = cell.look;
+            return;
+        }
         self.way = put_read(self.way, self.lead, cell.look, read, out);
         self.lead = waiting(cell, read.held);
         self.before = cell.look;

@@ -55,7 +55,7 @@ fn is_same(first: Look, second: Look) -> bool
 
 /// Puts a character: at most 4 bytes.
 #[inline(always)]
-fn put_character(character: char, out: &mut SliceVec<'_, u8>)
+pub(crate) fn put_character(character: char, out: &mut SliceVec<'_, u8>)
     requires { length out.old.items + 4 ≤ out.old.capacity }
     ensures items { out.new.items ≡ out.old.items ++ encode_utf8 character }
     ensures few { length out.new.items ≤ length out.old.items + 4 }
@@ -63,6 +63,10 @@ fn put_character(character: char, out: &mut SliceVec<'_, u8>)
 {
     let mut buffer = [0; 4];
     let text = character.encode_utf8(&mut buffer).as_bytes();
+    if text.len() == 3 {
+        out.extend(&text[..3]);
+        return;
+    }
     out.extend(text);
 }
 
