@@ -6,9 +6,9 @@ use Rattle.utf8_own_characters.specs.declared.decoding.Part.{Part}
 use Rattle.utf8_own_characters.specs.declared.decoding.Decoded.{Decoded}
 use Rattle.utf8_own_characters.specs.declared.listening.Listener.{Listener}
 use Rattle.utf8_own_characters.specs.declared.listening.Listened.{Listened}
-use Rattle.utf8_own_characters.specs.Decoding.{decoded, with_six}
-use Rattle.utf8_own_characters.specs.Listening.{after, done_in, going, heard, is_three, is_two, is_within, read}
-use Rattle.utf8_own_characters.specs.Looking.{noted, seen}
+use Rattle.utf8_own_characters.specs.Decoding.{character_of, decoded, none, with_six}
+use Rattle.utf8_own_characters.specs.Listening.{after, done_in, going, hear, heard, is_three, is_two, is_within, read}
+use Rattle.utf8_own_characters.specs.Looking.{code_of, noted, seen}
 use Rattle.utf8_own_characters.specs.Reading.{list_of}
 use Rattle.utf8_own_characters.specs.declared.cluster.Cluster.{Cluster}
 use Rattle.utf8_own_characters.specs.declared.counting.Count.{Count}
@@ -69,9 +69,28 @@ three_quiet l a b c three =
       second = second_quiet u (a % 16) b refl (and_second (is_within 0xE0 0xEF a) (is_within 0x80 0xBF b) both);
     }
 
+-- a letter is heard with its last byte
+pub three_heard : (l : Listener) (a b c letter : ℕ) → is_three a b c ≡ true → character_of (code_of a b c) ≡ Some letter
+    → read (read (read l a).listener b).listener c ≡ hear (record l { part = none }) letter
+unfolding quiet
+three_heard l a b c letter three is =
+    let A = is_within 0xE0 0xEF a in
+    let B = is_within 0x80 0xBF b in
+    let C = is_within 0x80 0xBF c in
+    let both = and_first (A && B) C three in
+    let low = low_of 0x80 0xBF c (and_second (A && B) C three) in
+    let high = high_of 0x80 0xBF c (and_second (A && B) C three) in
+    let u : Listener = record l { part = record { bits = a % 16; left = 2 } } in
+    let p : Part = record { bits = with_six (record { bits = a % 16; left = 2 }) b; left = 1 } in
+    let v : Listener = record u { part = p } in
+    ap (λ (x : Listened). read (read x.listener b).listener c) (first_quiet l a (and_first A B both))
+    ∙ ap (λ (x : Listened). read x.listener c) (second_quiet u (a % 16) b refl (and_second A B both))
+    ∙ ap (λ (d : Decoded). heard (record v { part = d.part }) d.character) (tail p c low (omega (arith, high)))
+    ∙ ap (λ (o : Option ℕ). heard (record v { part = none }) o) is
+
 -- ---- so with a letter that ends which ends with its last byte
 
-three_done : (l : Listener) (a b c : ℕ) → is_three a b c ≡ true
+pub three_done : (l : Listener) (a b c : ℕ) → is_three a b c ≡ true
     → done_in l (a ∷ b ∷ c ∷ []) ≡ list_of (read (read (read l a).listener b).listener c).done ++ []
 three_done l a b c three =
     let q = three_quiet l a b c three in
@@ -86,7 +105,7 @@ two_done l a b two =
     ap (λ (x : Listened). list_of x.done ++ done_in x.listener (b ∷ [])) q
     ∙ ap (λ (x : Listened). list_of (read x.listener b).done ++ []) (sym q)
 
-seen_one : (room : ℕ) (xs : List Count) (done : Option Cluster) → noted room xs done ≡ seen room xs (list_of done ++ [])
+pub seen_one : (room : ℕ) (xs : List Count) (done : Option Cluster) → noted room xs done ≡ seen room xs (list_of done ++ [])
 seen_one room xs None = refl
 seen_one room xs (Some c) = refl
 
@@ -104,18 +123,6 @@ prefix_two (a ∷ b ∷ bs) l = refl
 pub prefix_one : (bs : List ℕ) → 1 ≤ length bs → take 1 bs ≡ get_or bs 0 0 ∷ []
 prefix_one [] l = absurd (omega arith)
 prefix_one (a ∷ bs) l = refl
-
-pub letter_noted : (room : ℕ) (xs : List Count) (l : Listener) (bs : List ℕ) (x : Listened) → 3 ≤ length bs
-    → is_three (get_or bs 0 0) (get_or bs 1 0) (get_or bs 2 0) ≡ true
-    → x ≡ read (read (read l (get_or bs 0 0)).listener (get_or bs 1 0)).listener (get_or bs 2 0)
-    → noted room xs x.done ≡ seen room xs (done_in l (take 3 bs))
-letter_noted room xs l bs x long three is =
-    let a = get_or bs 0 0 in
-    let b = get_or bs 1 0 in
-    let c = get_or bs 2 0 in
-    ap (λ (y : Listened). noted room xs y.done) is
-    ∙ seen_one room xs (read (read (read l a).listener b).listener c).done
-    ∙ ap (seen room xs) (sym (three_done l a b c three) ∙ ap (done_in l) (sym (prefix_three bs long)))
 
 pub pair_noted : (room : ℕ) (xs : List Count) (l : Listener) (bs : List ℕ) (x : Listened) → 2 ≤ length bs
     → is_two (get_or bs 0 0) (get_or bs 1 0) ≡ true → x ≡ read (read l (get_or bs 0 0)).listener (get_or bs 1 0)
@@ -140,7 +147,7 @@ pub after-append : (l : Listener) (xs ys : List ℕ) → after l (xs ++ ys) ≡ 
 after-append l [] ys = refl
 after-append l (x ∷ xs) ys = after-append (read l x).listener xs ys
 
-done-append : (l : Listener) (xs ys : List ℕ) → done_in l (xs ++ ys) ≡ done_in l xs ++ done_in (after l xs) ys
+pub done-append : (l : Listener) (xs ys : List ℕ) → done_in l (xs ++ ys) ≡ done_in l xs ++ done_in (after l xs) ys
 done-append l [] ys = refl
 done-append l (x ∷ xs) ys =
     ap (λ (z : List Cluster). list_of (read l x).done ++ z) (done-append (read l x).listener xs ys)

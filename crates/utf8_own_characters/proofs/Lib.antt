@@ -8,6 +8,7 @@ pub mod NoneAfter
 pub mod Places
 pub mod Ranked
 pub mod RowLaws
+pub mod Runs
 pub mod Scalars
 pub mod Tests
 pub mod TextsRead

@@ -1,11 +1,13 @@
 -- What a page prints, at a first look.
-use Rattle.std.specs.Prelude.{ℕ, List, [], ◌∷◌, Bool, true, false, not, ◌==◌, ◌&&◌, ◌||◌, nat_lt, if◌then◌else◌, Option, None, Some}
+use Rattle.std.specs.Prelude.{◌≡◌, ℕ, ◌%◌, ◌≤◌, List, [], ◌∷◌, length, get_or, Bool, true, false, not, ◌==◌, ◌&&◌, ◌||◌}
+use Rattle.std.specs.Prelude.{nat_le, nat_lt, if◌then◌else◌, Option, None, Some}
 use Rattle.unicode_width.specs.Width.{char_width}
 use Rattle.utf8_own_characters.specs.declared.cluster.Cluster.{Cluster}
 use Rattle.utf8_own_characters.specs.declared.counting.Count.{Count}
 use Rattle.utf8_own_characters.specs.Cluster.{is_ascii}
 use Rattle.utf8_own_characters.specs.Counting.{counted_within}
-use Rattle.utf8_own_characters.specs.Listening.{is_within}
+use Rattle.utf8_own_characters.specs.Decoding.{character_of, with_six}
+use Rattle.utf8_own_characters.specs.Listening.{begins_three, is_within}
 
 -- a blank, or a hyphen that shows only where a line ends
 abbrev pub is_gap : ℕ → Bool
@@ -31,3 +33,25 @@ noted room xs (Some c) = if takes_place c then counted_within room xs c else xs
 abbrev pub seen : ℕ → List Count → List Cluster → List Count
 seen room xs [] = xs
 seen room xs (c ∷ cs) = seen room (noted room xs (Some c)) cs
+
+-- ---- letters that are looked at one after another
+
+-- the number of a character of three bytes
+abbrev pub code_of : ℕ → ℕ → ℕ → ℕ
+code_of a b c = with_six (record { bits = with_six (record { bits = a % 16; left = 2 }) b; left = 1 }) c
+
+-- a letter beyond signs that show nothing, no mark of byte order, that takes columns
+abbrev pub is_placed : ℕ → Bool
+is_placed c = nat_le 0x2070 c && not (c == 0xFEFF) && takes_columns c
+
+-- three bytes are such a letter
+pub record IsPlaced (a b c letter : ℕ) : Type 0 where
+  pub is_character : character_of (code_of a b c) ≡ Some letter
+  pub placed : is_placed letter ≡ true
+
+-- and a text begins with it
+pub record BeginsPlaced (bytes : List ℕ) (letter : ℕ) : Type 0 where
+  pub long : 3 ≤ length bytes
+  pub three : begins_three bytes ≡ true
+  pub is_character : character_of (code_of (get_or bytes 0 0) (get_or bytes 1 0) (get_or bytes 2 0)) ≡ Some letter
+  pub placed : is_placed letter ≡ true

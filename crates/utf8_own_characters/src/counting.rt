@@ -70,7 +70,21 @@ fn sought(counts: &[Count], cluster: &Cluster) -> Option<usize>
     None
 }
 
-/// The place of a cluster.
+/// The place of a cluster that does not stand where its first slot says.
+#[inline(never)]
+fn place_elsewhere(counts: &[Count], slots: &[u16], cluster: Cluster) -> Option<usize>
+    requires { is_once counts.now ≡ true }
+    ensures { result ≡ count_from 0 counts.now cluster }
+{
+    let place = guess(counts, slots, &cluster);
+    if stands(counts, place, &cluster) {
+        return Some(place);
+    }
+    sought(counts, &cluster)
+}
+
+/// The place of a cluster. Mostly its first slot says where it stands.
+#[inline(always)]
 fn place_in(counts: &[Count], slots: &[u16], cluster: &Cluster) -> Option<usize>
     requires { is_once counts.now ≡ true }
     ensures { result ≡ count_from 0 counts.now cluster.now }
@@ -79,11 +93,7 @@ fn place_in(counts: &[Count], slots: &[u16], cluster: &Cluster) -> Option<usize>
     if stands(counts, first, cluster) {
         return Some(first);
     }
-    let place = guess(counts, slots, cluster);
-    if stands(counts, place, cluster) {
-        return Some(place);
-    }
-    sought(counts, cluster)
+    place_elsewhere(counts, slots, *cluster)
 }
 
 /// A count, once more.
@@ -111,6 +121,7 @@ fn raise(counts: &mut SliceVec<'_, Count>, place: usize)
 }
 
 /// A cluster that was not counted comes. Tells whether there is room for it.
+#[inline(never)]
 fn add(counts: &mut SliceVec<'_, Count>, slots: &mut [u16], cluster: &Cluster) -> bool
     requires { count_from 0 counts.old.items cluster.now ≡ None }
     ensures items { counts.new.items ≡ counted_within counts.old.capacity counts.old.items cluster.now }
@@ -130,6 +141,7 @@ fn add(counts: &mut SliceVec<'_, Count>, slots: &mut [u16], cluster: &Cluster) -
 
 /// A cluster comes. Tells whether it is counted: it is where it was before, or where there is room. The slots, at first all 0, say where
 /// to look first; twice as many as counts are enough. One that is new is looked for everywhere.
+#[inline(always)]
 pub fn count_cluster(counts: &mut SliceVec<'_, Count>, slots: &mut [u16], cluster: &Cluster) -> bool
     requires { is_once counts.old.items ≡ true }
     ensures items { counts.new.items ≡ counted_within counts.old.capacity counts.old.items cluster.now }

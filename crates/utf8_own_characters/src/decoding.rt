@@ -21,7 +21,7 @@ pub struct Decoded {
 
 /// The character of a number, if it is one.
 #[inline(always)]
-fn character_of(code: u32) -> Option<char>
+pub(crate) fn character_of(code: u32) -> Option<char>
     ensures { result ≡ specs.character_of code }
 {
     char::from_u32(code)

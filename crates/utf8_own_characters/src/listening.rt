@@ -64,7 +64,7 @@ fn plain_after(character: char, is_plain: bool) -> bool
 
 /// Whether these are three bytes of which the first begins a character of three, and the others go one on.
 #[inline(always)]
-fn is_three(a: u8, b: u8, c: u8) -> bool
+pub(crate) fn is_three(a: u8, b: u8, c: u8) -> bool
     ensures { result ≡ specs.is_three a b c }
 {
     matches!(a, 0xE0..=0xEF) && matches!(b, 0x80..=0xBF) && matches!(c, 0x80..=0xBF)
@@ -73,7 +73,7 @@ fn is_three(a: u8, b: u8, c: u8) -> bool
 /// Whether three such bytes are a letter: no mark, and no sign that shows nothing.
 #[inline(always)]
 fn are_letter(a: u8, b: u8, c: u8) -> bool {
-    let code = u32::from(a % 16) * 4_096 + u32::from(b % 64) * 64 + u32::from(c % 64);
+    let code = (u32::from(a % 16) * 64 + u32::from(b % 64)) * 64 + u32::from(c % 64);
     if code < 0x2070 || code == 0xFEFF {
         return false;
     }

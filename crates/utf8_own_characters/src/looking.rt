@@ -1,12 +1,13 @@
 //! A first look at what a page prints: how often each of its clusters comes.
-ghost use Rattle.std.specs.Prelude.{◌≡◌, ◌<◌, ◌≤◌, length, take, true};
+ghost use Rattle.std.specs.Prelude.{◌≡◌, ◌<◌, ◌≤◌, length, take, true, IfSome};
 ghost use Rattle.utf8_own_characters.specs.Counting.{is_once};
-ghost use Rattle.utf8_own_characters.specs.Listening.{after, begins_three, begins_two, done_in};
+ghost use Rattle.utf8_own_characters.specs.Listening.{after, begins_two, done_in};
 ghost use Rattle.utf8_own_characters.specs.Looking as specs;
 
 use super::cluster::Cluster;
 use super::counting::{Count, count_cluster};
-use super::listening::{Listener, begins_letter, begins_pair};
+use super::decoding::{Part, character_of};
+use super::listening::{Listener, begins_pair, is_three};
 use nr_vectors::slice_vec::SliceVec;
 use unicode_width::UnicodeWidthChar;
 
@@ -15,10 +16,12 @@ use unicode_width::UnicodeWidthChar;
 fn is_gap(character: char) -> bool
     ensures { result ≡ specs.is_gap character }
 {
-    matches!(
-        u32::from(character),
-        0xA0 | 0xAD | 0x2000..=0x200A | 0x2028 | 0x2029 | 0x202F | 0x205F
-    )
+    let code = u32::from(character);
+    code < 0x2060
+        && matches!(
+            code,
+            0xA0 | 0xAD | 0x2000..=0x200A | 0x2028 | 0x2029 | 0x202F | 0x205F
+        )
 }
 
 /// Whether a character takes columns.
@@ -81,7 +84,7 @@ fn look_at_one(
     note(counts, slots, listened.done)
 }
 
-/// The same of a byte that is neither of ASCII nor the first of a character of two or three.
+/// The same of a byte that is neither of ASCII nor the first of a character of two, nor of such a letter as is looked for below.
 #[inline(never)]
 fn look_at_other(
     bytes: &[u8],
@@ -97,27 +100,6 @@ fn look_at_other(
     ensures room { counts.new.capacity ≡ counts.old.capacity }
 {
     look_at_one(bytes, listener, counts, slots)
-}
-
-/// Looks at the letter of three bytes that these begin with: with the first two nothing ends.
-#[inline(always)]
-fn look_at_letter(
-    bytes: &[u8],
-    listener: &mut Listener,
-    counts: &mut SliceVec<'_, Count>,
-    slots: &mut [u16],
-) -> bool
-    requires long { 3 ≤ length bytes.now }
-    requires three { begins_three bytes.now ≡ true }
-    requires once { is_once counts.old.items ≡ true }
-    ensures items { counts.new.items ≡ specs.seen counts.old.capacity counts.old.items (done_in listener.old (take 3 bytes.now)) }
-    ensures listener { listener.new ≡ after listener.old (take 3 bytes.now) }
-    ensures once { is_once counts.new.items ≡ true }
-    ensures room { counts.new.capacity ≡ counts.old.capacity }
-{
-    let listened = listener.read_three(bytes[0], bytes[1], bytes[2]);
-    *listener = listened.listener;
-    note(counts, slots, listened.done)
 }
 
 /// Looks at the character of two bytes that these begin with: with the first nothing ends.
@@ -141,6 +123,81 @@ fn look_at_pair(
     note(counts, slots, listened.done)
 }
 
+/// The number of a character of three bytes.
+#[inline(always)]
+fn code_of(a: u8, b: u8, c: u8) -> u32
+    ensures { result ≡ specs.code_of a b c }
+{
+    let bits = u32::from(a % 16) % 65_536 * 64 + u32::from(b % 64);
+    bits % 65_536 * 64 + u32::from(c % 64)
+}
+
+/// Whether a letter stands beyond the signs that show nothing, is no mark of byte order, and takes columns.
+#[inline(always)]
+fn is_placed(letter: char) -> bool
+    ensures { result ≡ specs.is_placed letter }
+{
+    let code = u32::from(letter);
+    code >= 0x2070 && code != 0xFEFF && takes_columns(letter)
+}
+
+/// The letter that these bytes are, if they are such a one.
+#[inline(always)]
+fn letter_of(a: u8, b: u8, c: u8) -> Option<char>
+    ensures { IfSome result (λ letter. specs.IsPlaced a b c letter) }
+{
+    match character_of(code_of(a, b, c)) {
+        Some(letter) if is_placed(letter) => Some(letter),
+        _ => None,
+    }
+}
+
+/// The letter of three bytes that these begin with, if they begin with such a one.
+#[inline(always)]
+fn placed_letter(bytes: &[u8]) -> Option<char>
+    ensures { IfSome result (λ letter. specs.BeginsPlaced bytes.now letter) }
+{
+    if bytes.len() < 3 || !is_three(bytes[0], bytes[1], bytes[2]) {
+        return None;
+    }
+    letter_of(bytes[0], bytes[1], bytes[2])
+}
+
+/// Looks at the letters that these bytes begin with, of which this is the first: each but the last ends where the next begins, and is
+/// counted.
+#[inline(always)]
+fn look_at_letters(
+    bytes: &[u8],
+    letter: char,
+    listener: &mut Listener,
+    counts: &mut SliceVec<'_, Count>,
+    slots: &mut [u16],
+) -> Looked
+    requires begins { specs.BeginsPlaced bytes.now letter }
+    requires once { is_once counts.old.items ≡ true }
+    ensures items { counts.new.items ≡ specs.seen counts.old.capacity counts.old.items (done_in listener.old (take result.count bytes.now)) }
+    ensures listener { listener.new ≡ after listener.old (take result.count bytes.now) }
+    ensures once { is_once counts.new.items ≡ true }
+    ensures room { counts.new.capacity ≡ counts.old.capacity }
+    ensures some { 0 < result.count }
+    ensures within { result.count ≤ length bytes.now }
+{
+    let mut fits = note(counts, slots, listener.held);
+    let mut last = letter;
+    let mut count = 3;
+    while let Some(next) = placed_letter(&bytes[count..]) {
+        fits &= count_cluster(counts, slots, &Cluster::single(last));
+        last = next;
+        count += 3;
+    }
+    *listener = Listener {
+        part: Part::none(),
+        held: Some(Cluster::single(last)),
+        is_plain: true,
+    };
+    Looked { count, fits }
+}
+
 /// Looks at the first of these bytes, or at the character that they begin with.
 #[inline(always)]
 fn look_at_first(
@@ -162,9 +219,8 @@ fn look_at_first(
         let fits = look_at_one(bytes, listener, counts, slots);
         return Looked { count: 1, fits };
     }
-    if begins_letter(bytes) {
-        let fits = look_at_letter(bytes, listener, counts, slots);
-        return Looked { count: 3, fits };
+    if let Some(letter) = placed_letter(bytes) {
+        return look_at_letters(bytes, letter, listener, counts, slots);
     }
     if begins_pair(bytes) {
         let fits = look_at_pair(bytes, listener, counts, slots);
