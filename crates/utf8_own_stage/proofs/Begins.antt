@@ -1,13 +1,13 @@
 -- Of three bytes that are a letter comes the letter: what was held is done, and it is held.
 use lib.Utf8.{scalar}
-use Rattle.std.proofs.Common.{◌≡◌, ℕ, ◌+◌, ◌*◌, ◌%◌, ◌≤◌, ◌<◌, List, length, get_or, Bool, true, false, ◌&&◌, ◌||◌, ◌==◌, nat_le, nat_lt, if◌then◌else◌, Option, None, Some, refl, sym, ◌∙◌, ap, arith}
+use Rattle.std.proofs.Common.{◌≡◌, ℕ, ◌+◌, ◌*◌, ◌%◌, ◌≤◌, List, length, get_or, Bool, true, false, ◌&&◌, ◌||◌, ◌==◌, nat_le, nat_lt, if◌then◌else◌, None, Some, refl, sym, ◌∙◌, ap, arith}
 use Rattle.std.proofs.lemmas.Bool.Decides.{nat_tests}
 use Rattle.utf8_own_characters.specs.declared.decoding.Part.{Part}
 use Rattle.utf8_own_characters.specs.declared.decoding.Decoded.{Decoded}
 use Rattle.utf8_own_characters.specs.declared.listening.Listener.{Listener}
 use Rattle.utf8_own_characters.specs.declared.listening.Listened.{Listened}
 use Rattle.utf8_own_characters.specs.Cluster.{is_mark, single}
-use Rattle.utf8_own_characters.specs.Decoding.{none, with_six}
+use Rattle.utf8_own_characters.specs.Decoding.{none}
 use Rattle.utf8_own_characters.specs.Listening.{going, hear, hear_letter, hear_mark, heard, is_three, is_unseen, is_within, plain_after, read, takes_marks}
 use Rattle.utf8_own_characters.proofs.Tests.{and_first, and_second}
 use Rattle.utf8_own_characters.proofs.TextsRead.{lead_three, tail}

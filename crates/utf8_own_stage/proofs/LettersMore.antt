@@ -1,14 +1,14 @@
 -- Letters of three bytes one after another: of each comes what was held before it.
-use Rattle.std.proofs.Common.{◌≡◌, ℕ, List, [], ◌∷◌, ◌++◌, ◌+◌, suc, zero, length, take, drop, get_or, refl, sym, ◌∙◌, ap, append-nil, append_assoc, arith, ◌<◌}
+use Rattle.std.proofs.Common.{◌≡◌, ℕ, List, [], ◌∷◌, ◌++◌, ◌+◌, suc, zero, length, take, drop, get_or, refl, sym, ◌∙◌, ap, append-nil, arith, ◌<◌}
 use Rattle.std.proofs.lemmas.List.{take_more}
 use Rattle.utf8_own_characters.specs.declared.listening.Listener.{Listener}
 use Rattle.utf8_own_characters.specs.declared.listening.Listened.{Listened}
-use Rattle.utf8_own_characters.specs.Listening.{after, read}
+use Rattle.utf8_own_characters.specs.Listening.{after}
 use Rattle.utf8_own_characters.specs.Table.{Characters}
 use Rattle.utf8_own_characters.proofs.Letters.{after-append, prefix_three}
 use Rattle.utf8_own_stage.specs.declared.points.Place.{Place}
 use Rattle.utf8_own_stage.specs.Coding.{after_cluster, place_after, place_after_all, said, said_cluster, said_of}
-use Rattle.utf8_own_stage.specs.Letters.{Begins, held, holding}
+use Rattle.utf8_own_stage.specs.Letters.{Begins, holding}
 use Rattle.utf8_own_stage.proofs.Letters.{letter_comes}
 use Rattle.utf8_own_stage.specs.Points.{first_place}
 use Rattle.utf8_own_stage.proofs.Parts.{place-append, said-append}

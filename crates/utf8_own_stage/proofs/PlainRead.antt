@@ -1,5 +1,5 @@
 -- What comes of a character of ASCII that is printed as it comes: what was held, and it, unless it is held.
-use Rattle.std.proofs.Common.{◌≡◌, ℕ, ◌%◌, ◌<◌, List, [], ◌∷◌, ◌++◌, Bool, true, false, not, ◌&&◌, ◌||◌, ◌==◌, nat_le, nat_lt, if◌then◌else◌, Option, None, Some, refl, sym, ◌∙◌, ap, arith}
+use Rattle.std.proofs.Common.{◌≡◌, ℕ, ◌%◌, ◌<◌, [], ◌∷◌, ◌++◌, Bool, true, false, not, ◌&&◌, ◌||◌, ◌==◌, nat_le, nat_lt, if◌then◌else◌, Option, None, Some, refl, ◌∙◌, ap, arith}
 use Rattle.std.proofs.lemmas.Bool.{ltb-true}
 use Rattle.std.proofs.lemmas.Bool.Decides.{nat_tests}
 use Rattle.ucd_breaks.specs.LineBreak.{line_break}
@@ -8,14 +8,13 @@ use Rattle.utf8_own_characters.specs.declared.cluster.Cluster.{Cluster}
 use Rattle.utf8_own_characters.specs.declared.decoding.Decoded.{Decoded}
 use Rattle.utf8_own_characters.specs.declared.listening.Listener.{Listener}
 use Rattle.utf8_own_characters.specs.declared.listening.Listened.{Listened}
-use Rattle.utf8_own_characters.specs.declared.table.Code.{Code}
 use Rattle.utf8_own_characters.specs.declared.table.Code.TheVariants.{One}
 use Rattle.utf8_own_characters.specs.Breaking.{is_east_asian, is_korean, may_begin, may_break, may_end}
 use Rattle.utf8_own_characters.specs.Cluster.{is_ascii, is_mark, is_same, is_two, is_wide, is_zero, single}
-use Rattle.utf8_own_characters.specs.Decoding.{decoded, more, going, none}
+use Rattle.utf8_own_characters.specs.Decoding.{more, going, none}
 use Rattle.utf8_own_characters.specs.Listening as listening
 use Rattle.utf8_own_characters.specs.Listening.{hear, hear_letter, hear_mark, heard, is_unseen, plain_after, read, takes_marks}
-use Rattle.utf8_own_characters.specs.Table.{Characters, code, code_at, place_of}
+use Rattle.utf8_own_characters.specs.Table.{Characters, code_at, place_of}
 use Rattle.utf8_own_characters.proofs.Tests.{and_first, and_second, and_true, lt_so, not_true}
 use Rattle.utf8_own_stage.specs.declared.points.Place.{Place}
 use Rattle.utf8_own_stage.specs.declared.points.Point.TheVariants.{Nothing, Cut}

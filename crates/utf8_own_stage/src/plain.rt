@@ -1,5 +1,5 @@
 //! Characters of ASCII that are printed as they come, one after another.
-ghost use Rattle.std.specs.Prelude.{◌≡◌, ℕ, List, [], ◌∷◌, ◌+◌, ◌*◌, ◌<◌, ◌≤◌, ◌++◌, length, get_or, take, true, Option, None, Some, if◌then◌else◌};
+ghost use Rattle.std.specs.Prelude.{◌≡◌, [], ◌∷◌, ◌+◌, ◌*◌, ◌<◌, ◌≤◌, ◌++◌, length, get_or, take, true, None};
 ghost use Rattle.utf8_own_characters.specs.Cluster as cluster;
 ghost use Rattle.utf8_own_characters.specs.Listening as listening;
 ghost use Rattle.utf8_own_characters.specs.Table.{Characters};

@@ -1,4 +1,4 @@
-use Rattle.std.proofs.Common.{ℕ, List, [], ◌+◌, ◌-◌, ◌≤◌, ◌++◌, ◌∙◌, length, drop, refl, sym, ap, append-nil, arith}
+use Rattle.std.proofs.Common.{ℕ, List, ◌-◌, ◌≤◌, ◌++◌, ◌∙◌, length, drop, sym, ap, append-nil, arith}
 use Rattle.std.proofs.lemmas.List.{drop_all, length-drop, length-take}
 use Rattle.utf8_own_characters.specs.Listening.{after}
 use Rattle.utf8_own_characters.proofs.Letters.{more_after}

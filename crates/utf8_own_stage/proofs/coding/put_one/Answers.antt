@@ -1,4 +1,4 @@
-use Rattle.std.proofs.Common.{ℕ, List, [], ◌++◌, ◌∙◌, sym, ap, append-nil}
+use Rattle.std.proofs.Common.{ℕ, List, ◌++◌, ◌∙◌, sym, ap, append-nil}
 use Rattle.utf8_own_characters.specs.declared.listening.Listened.{Listened}
 use Rattle.utf8_own_characters.specs.Listening.{after}
 use Rattle.utf8_own_characters.proofs.Letters.{prefix_one}

@@ -1,4 +1,4 @@
-use Rattle.std.proofs.Common.{ℕ, List, [], ◌++◌, ◌∙◌, Bool, Option, sym, ap, append-nil, append_assoc}
+use Rattle.std.proofs.Common.{ℕ, List, ◌++◌, ◌∙◌, Bool, Option, sym, ap, append-nil, append_assoc}
 use Rattle.utf8_own_characters.specs.declared.cluster.Cluster.{Cluster}
 use Rattle.utf8_own_characters.specs.declared.decoding.Part.{Part}
 use Rattle.utf8_own_characters.specs.declared.listening.Listened.{Listened}

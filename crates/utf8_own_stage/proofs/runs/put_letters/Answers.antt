@@ -1,8 +1,7 @@
-use Rattle.std.proofs.Common.{ℕ, List, ◌-◌, ◌+◌, ◌*◌, ◌++◌, ◌∙◌, length, take, drop, Some, true, ap, append_assoc, arith}
+use Rattle.std.proofs.Common.{ℕ, List, ◌-◌, ◌++◌, ◌∙◌, length, take, drop, Some, true, ap, append_assoc, arith}
 use Rattle.std.proofs.lemmas.List.{length-drop, length-take, take_rest}
 use Rattle.utf8_own_characters.specs.declared.cluster.Cluster.{Cluster}
 use Rattle.utf8_own_characters.specs.declared.decoding.Part.{Part}
-use Rattle.utf8_own_characters.specs.declared.listening.Listener.{Listener}
 use Rattle.utf8_own_characters.specs.Decoding.{none}
 use Rattle.utf8_own_characters.specs.Listening.{after}
 use Rattle.utf8_own_stage.specs.declared.points.Place.{Place}

@@ -1,4 +1,4 @@
-use Rattle.std.proofs.Common.{◌≤◌, ℕ, List, ◌+◌, ◌-◌, ◌++◌, ◌∙◌, length, take, drop, refl, sym, ap, subst, append_assoc, arith}
+use Rattle.std.proofs.Common.{ℕ, List, ◌+◌, ◌++◌, ◌∙◌, take, drop, refl, sym, ap, subst, append_assoc, arith}
 use Rattle.std.proofs.lemmas.List.{length-drop, take_rest}
 use Rattle.utf8_own_characters.specs.Cluster.{single}
 use Rattle.utf8_own_stage.specs.declared.points.Place.{Place}

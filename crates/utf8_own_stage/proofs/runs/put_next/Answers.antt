@@ -1,4 +1,4 @@
-use Rattle.std.proofs.Common.{ℕ, List, ◌++◌, ◌∙◌, sym, ap, append_assoc, rules}
+use Rattle.std.proofs.Common.{ℕ, List, ◌++◌, ◌∙◌, sym, ap, append_assoc}
 use Rattle.utf8_own_characters.specs.declared.cluster.Cluster.{Cluster}
 use Rattle.utf8_own_characters.specs.Cluster.{single}
 use Rattle.utf8_own_characters.proofs.Tests.{not_both}
