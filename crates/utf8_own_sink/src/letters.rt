@@ -63,11 +63,14 @@ pub(crate) fn put_character(character: char, out: &mut SliceVec<'_, u8>)
 {
     let mut buffer = [0; 4];
     let text = character.encode_utf8(&mut buffer).as_bytes();
-    if text.len() == 3 {
-        out.extend(&text[..3]);
-        return;
+    match text {
+        [first, second, third] => {
+            out.push(*first);
+            out.push(*second);
+            out.push(*third);
+        }
+        _ => out.extend(text),
     }
-    out.extend(text);
 }
 
 /// Puts a mark, if it is one: at most 4 bytes.
