@@ -4,7 +4,7 @@ use Rattle.std.specs.Io.KnownBytes.{Appends}
 use Rattle.nr_units.specs.Failures.{next_count}
 use Rattle.nr_units.specs.Sink.{AppendsPrefix}
 use Rattle.nr_units.specs.Source.{Supply}
-use Rattle.preconv_converter.specs.declared.target.Target.{Target}
+use Rattle.preconv_characters.specs.declared.target.Target.{Target}
 use Rattle.tbl_stage.specs.Text.{Bounds, set_text}
 use Rattle.nr_options.specs.Limits as limits
 use Rattle.nr_options.specs.declared.options.Options.{Options}

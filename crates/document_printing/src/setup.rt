@@ -2,7 +2,7 @@
 
 use document_reader::Stages;
 use nr_engine::{Measure, Options};
-use preconv_converter::Target;
+use preconv_characters::Target;
 
 /// How a page is set.
 #[derive(Clone, Copy)]

@@ -3,8 +3,8 @@ use Rattle.std.proofs.Common.{◌≡◌, ℕ, ◌+◌, ◌<◌, ◌≤◌, List,
 use Rattle.std.proofs.lemmas.Grind.{common_steps}
 use Rattle.std.proofs.Math.Seq.{take-length}
 use Rattle.nr_units.specs.Source.{Faults, Never, After, Anytime, Supply}
-use Rattle.preconv_converter.specs.declared.target.Target.{Target}
-use Rattle.preconv_converter.specs.declared.target.Target.TheVariants.{Utf8}
+use Rattle.preconv_characters.specs.declared.target.Target.{Target}
+use Rattle.preconv_characters.specs.declared.target.Target.TheVariants.{Utf8}
 use Rattle.utf8_own_characters.specs.Table.{Characters}
 use Rattle.utf8_own_stage.specs.Coding.{coded_text}
 use Rattle.mdoc_converter.specs.Reading as mdoc

@@ -1,12 +1,12 @@
 -- What the formatter is to read of a page: the composition of the stages' definitions.
 use Rattle.std.specs.Prelude.{ℕ, ◌<◌, List, length, Bool, true, false}
 use Rattle.nr_units.specs.Source.{Faults, Never, After, Anytime, Supply}
-use Rattle.preconv_converter.specs.declared.target.Target.{Target}
+use Rattle.preconv_characters.specs.declared.target.Target.{Target}
 use Rattle.mdoc_converter.specs.Reading as mdoc
 use Rattle.mdoc_converter.specs.Staged as mdoc_part
 use Rattle.preconv_converter.specs.Reading as preconv
 use Rattle.preconv_converter.specs.Staged as preconv_part
-use Rattle.preconv_converter.specs.declared.target.Target.TheVariants.{Utf8}
+use Rattle.preconv_characters.specs.declared.target.Target.TheVariants.{Utf8}
 use Rattle.utf8_own_characters.specs.Table.{Characters}
 use Rattle.utf8_own_stage.specs.Coding.{coded_text}
 use Rattle.document_reader.specs.declared.page.Stages.{Stages}

@@ -1,7 +1,7 @@
 //! What the formatter reads of a page: mdoc becomes man, and characters and escapes what it knows, as bytes are asked
 //! for.
 //!
-//! It stands on document_stages, mdoc_converter, preconv_converter, utf8_own_stage, utf8_own_characters and nr_units. To read: `page`, `places`, `own`, `skimmed`.
+//! It stands on document_stages, mdoc_converter, preconv_characters, preconv_converter, utf8_own_stage, utf8_own_characters and nr_units. To read: `page`, `places`, `own`, `skimmed`.
 #![tactic(auto)]
 
 mod own;

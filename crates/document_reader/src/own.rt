@@ -3,13 +3,13 @@ ghost use Rattle.std.specs.Prelude.{◌≡◌, ◌<◌, ◌≤◌, ℕ, Some, fa
 ghost use Rattle.nr_units.specs.Source.{After, Supply};
 ghost use Rattle.document_stages.specs.Pulling.{broken_off};
 ghost use Rattle.document_reader.specs.Page.{IsShort, breaks_off, man_of, man_so_far, own_so_far, own_supply, plain_of, plain_so_far};
-ghost use Rattle.preconv_converter.specs.declared.target.Target.TheVariants.{Utf8};
+ghost use Rattle.preconv_characters.specs.declared.target.Target.TheVariants.{Utf8};
 ghost use Rattle.utf8_own_characters.specs.Table.{Good};
 
 use super::page::{PageText, Stages, Waits, read_page};
 use document_stages::Pull;
 use nr_units::source::Source;
-use preconv_converter::Target;
+use preconv_characters::Target;
 use utf8_own_characters::OwnTable;
 use utf8_own_stage::Coder;
 

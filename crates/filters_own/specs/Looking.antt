@@ -2,7 +2,7 @@
 use Rattle.std.specs.Prelude.{◌≡◌, ℕ, ◌<◌, List, [], length, Bool, true, Option, None, Some, Result, Ok, Err}
 use Rattle.std.specs.Prelude.{⊤}
 use Rattle.preconv_coding.specs.UnderCoding.{text_of}
-use Rattle.preconv_converter.specs.declared.target.Target.TheVariants.{Utf8}
+use Rattle.preconv_characters.specs.declared.target.Target.TheVariants.{Utf8}
 use Rattle.document_reader.specs.Page.{IsShort, man_of, plain_of}
 use Rattle.document_reader.specs.declared.page.Stages.{Stages}
 use Rattle.utf8_own_characters.specs.declared.counting.Count.{Count}

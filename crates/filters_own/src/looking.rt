@@ -11,7 +11,7 @@ use document_reader::{Places, Stages, read_page};
 use document_stages::Text;
 use filters::{BUFFER_SIZE, Disk, Ending, Paths};
 use nr_vectors::slice_vec::SliceVec;
-use preconv_converter::Target;
+use preconv_characters::Target;
 use std::alloc::{AllocError, Global};
 use std::io::Read;
 use utf8_own_characters::Count;

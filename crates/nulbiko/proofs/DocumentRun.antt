@@ -3,7 +3,7 @@ use Rattle.std.proofs.Common.{◌≡◌, ℕ, List, [], ◌++◌, append-nil, Bo
 use Rattle.nr_units.specs.Source.{Supply}
 use Rattle.nr_units.specs.declared.source.Fault.{Fault}
 use Rattle.utf8_characters.specs.declared.table.FixedTable.{FixedTable}
-use Rattle.preconv_converter.specs.declared.target.Target.{Target}
+use Rattle.preconv_characters.specs.declared.target.Target.{Target}
 use Rattle.utf8_converter.specs.Cells.{converted}
 use Rattle.utf8_converter.specs.Lines.{KeepsLines}
 use Rattle.utf8_converter.specs.Showing.{Finishes, Making, made_of}

@@ -7,9 +7,9 @@ use Rattle.utf8_own_characters.specs.Ranking.{ranked}
 use Rattle.utf8_own_characters.specs.Table.{Characters}
 use Rattle.utf8_own_page.specs.Looking.{counts_of}
 use Rattle.utf8_own_page.specs.Needing.{IsMadeOf, IsTableOf, lacks}
-use Rattle.preconv_converter.specs.declared.target.Target.{Target}
-use Rattle.preconv_converter.specs.declared.target.Target.TheVariants.{Ascii}
-use Rattle.preconv_converter.specs.declared.target.Target.TheVariants as targets
+use Rattle.preconv_characters.specs.declared.target.Target.{Target}
+use Rattle.preconv_characters.specs.declared.target.Target.TheVariants.{Ascii}
+use Rattle.preconv_characters.specs.declared.target.Target.TheVariants as targets
 use Rattle.tbl_stage.specs.Text.{Bounds}
 use Rattle.nr_options.specs.Limits as limits
 use Rattle.nr_options.specs.declared.options.Options.{Options}

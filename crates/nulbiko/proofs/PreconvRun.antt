@@ -2,7 +2,7 @@
 use Rattle.std.proofs.Common.{◌≡◌, ℕ, List, false, Option, refl, subst, arith}
 use Rattle.nr_units.specs.Failures.{next_count}
 use Rattle.nr_units.specs.Source.{Supply}
-use Rattle.preconv_converter.specs.declared.target.Target.{Target}
+use Rattle.preconv_characters.specs.declared.target.Target.{Target}
 use Rattle.document_stages.specs.Running.{TellsReads, is_read_fault}
 use Rattle.preconv_converter.specs.Running.{Ran}
 use Rattle.document_stages.specs.declared.running.RunEnd.{RunEnd}

@@ -8,7 +8,7 @@ use Rattle.tbl_setting.specs.Drawing.{signs_of}
 use Rattle.tbl_stage.specs.Memory.{limits_of}
 use Rattle.tbl_stage.specs.Text.{Bounds}
 use Rattle.utf8_characters.specs.declared.table.FixedTable.{FixedTable}
-use Rattle.preconv_converter.specs.Targets.{target_of}
+use Rattle.preconv_characters.specs.Targets.{target_of}
 use Rattle.utf8_converter.specs.Choosing.{chosen, looked_at}
 use Rattle.nr_options.specs.Limits.{AreLimits}
 use Rattle.nr_options.specs.declared.options.Options.{Options}

@@ -1,7 +1,7 @@
 -- The table of a page's own characters, for the calls of a stage, and what these come to.
 use Rattle.std.specs.Prelude.{◌≡◌, ℕ, ◌<◌, List, length, take, Bool, true, false, ◌&&◌, if◌then◌else◌, Some}
 use Rattle.std.specs.Prelude.{⊤}
-use Rattle.preconv_converter.specs.declared.target.Target.TheVariants.{Utf8}
+use Rattle.preconv_characters.specs.declared.target.Target.TheVariants.{Utf8}
 use Rattle.utf8_converter.specs.Choosing.{chosen, looked_at}
 use Rattle.utf8_own_characters.specs.declared.counting.Count.{Count}
 use Rattle.utf8_own_characters.specs.Table.{Characters}

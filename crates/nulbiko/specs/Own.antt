@@ -6,7 +6,7 @@ use Rattle.utf8_own_characters.specs.Ranking.{ranked}
 use Rattle.utf8_own_characters.specs.Table.{Characters}
 use Rattle.utf8_own_page.specs.Looking.{counts_of}
 use Rattle.utf8_own_page.specs.Needing.{IsTableOf, prefix_of, lacks, may_need_own}
-use Rattle.preconv_converter.specs.declared.target.Target.TheVariants.{Ascii, Utf8}
+use Rattle.preconv_characters.specs.declared.target.Target.TheVariants.{Ascii, Utf8}
 use Rattle.tbl_stage.specs.Text.{Bounds}
 use Rattle.nr_options.specs.declared.options.Options.{Options}
 use Rattle.document_stages.specs.Pulling.{whole}

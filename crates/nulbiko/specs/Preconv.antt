@@ -5,7 +5,7 @@ use Rattle.utf8_characters.specs.declared.table.FixedTable.{FixedTable}
 use Rattle.preconv_coding.specs.UnderCoding.{text_supply}
 use Rattle.document_stages.specs.Running.{is_read_fault}
 use Rattle.preconv_converter.specs.Running.{Ran}
-use Rattle.preconv_converter.specs.Targets.{target_of}
+use Rattle.preconv_characters.specs.Targets.{target_of}
 use Rattle.document_stages.specs.declared.running.RunEnd.{RunEnd}
 use Rattle.document_stages.specs.declared.running.RunEnd.TheVariants.{Done, ReadFault, TooLong, WriteFault}
 use Rattle.nulbiko.specs.Reported.{IsHanded, code_within, whole_text}

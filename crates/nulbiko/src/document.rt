@@ -24,7 +24,7 @@ use document_printing::{PageLimits, Rooms, Setup, Stages};
 use nr_engine::{CountedAlloc, Limits, Options};
 use nr_options::MOST_REGISTERS;
 use nr_units::sink::Sink;
-use preconv_converter::Target;
+use preconv_characters::Target;
 use std::alloc::{AllocError, Global};
 use utf8_characters::FixedTable;
 use utf8_own_page::may_need_own;

@@ -26,7 +26,7 @@ use document_reader::{Places, read_own_page};
 use nr_engine::{CountedAlloc, Desk, Limits, Options};
 use nr_units::sink::Sink;
 use nr_units::source::Fault;
-use preconv_converter::Target;
+use preconv_characters::Target;
 use std::alloc::AllocError;
 use tbl_setting::Complaint;
 use utf8_characters::FixedTable;

@@ -2,7 +2,7 @@
 ghost use Rattle.std.specs.Prelude.{◌≡◌, ◌≢◌, ◌<◌, ◌≤◌, Some, drop, length};
 ghost use Rattle.document_stages.specs.Pulling.{whole};
 ghost use Rattle.preconv_coding.specs.UnderCoding.{text_of};
-ghost use Rattle.preconv_converter.specs.declared.target.Target.TheVariants.{Utf8};
+ghost use Rattle.preconv_characters.specs.declared.target.Target.TheVariants.{Utf8};
 ghost use Rattle.document_reader.specs.Page.{own_of, plain_of};
 ghost use Rattle.utf8_own_characters.specs.Table.{Good};
 ghost use Rattle.utf8_own_sink.specs.Cells as own_sink;

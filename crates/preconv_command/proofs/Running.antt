@@ -1,7 +1,7 @@
 -- What the words of preconv ask for comes about.
 use Rattle.std.proofs.Common.{◌≡◌, ℕ, List, drop, Bool, Option, None, Some, Result, Ok, sym, refl, subst}
 use Rattle.nr_units.specs.Failures.{SinkFailures}
-use Rattle.preconv_converter.specs.declared.target.Target.TheVariants.{Ascii, Bytes}
+use Rattle.preconv_characters.specs.declared.target.Target.TheVariants.{Ascii, Bytes}
 use Rattle.utf8_characters.specs.declared.table.FixedTable.{FixedTable}
 use Rattle.filters.specs.Disk.{Opening}
 use Rattle.filters.specs.Program.{Comes, IsRun, TurnsNames}

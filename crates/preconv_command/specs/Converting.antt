@@ -6,8 +6,8 @@ use Rattle.std.specs.Io.KnownBytes.{Appends}
 use Rattle.nr_units.specs.Sink.{AppendsPrefix}
 use Rattle.preconv_coding.specs.UnderCoding as coding
 use Rattle.preconv_converter.specs.Reading.{converted, fed, first_reader}
-use Rattle.preconv_converter.specs.declared.target.Target.{Target}
-use Rattle.preconv_converter.specs.declared.target.Target.TheVariants.{Ascii, Bytes, Utf8}
+use Rattle.preconv_characters.specs.declared.target.Target.{Target}
+use Rattle.preconv_characters.specs.declared.target.Target.TheVariants.{Ascii, Bytes, Utf8}
 use Rattle.document_stages.specs.declared.running.RunEnd.{RunEnd}
 use Rattle.document_stages.specs.declared.running.RunEnd.TheVariants as outcomes
 use Rattle.utf8_own_characters.specs.Table.{Characters}

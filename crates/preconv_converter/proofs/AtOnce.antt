@@ -3,27 +3,33 @@ use Prim.Native.Char.{code}
 use Rattle.std.proofs.Common.{◌≡◌, ℕ, zero, suc, ◌+◌, ◌-◌, ◌<◌, ◌≤◌, List, [], ◌∷◌, length, get_or, Bool, true, false, not, ◌==◌, ◌&&◌, ◌||◌, nat_lt, if◌then◌else◌, refl, sym, ◌∙◌, ap, subst, add-one, arith}
 use Rattle.std.proofs.lemmas.Bool.Decides.{nat_tests}
 use Rattle.std.proofs.lemmas.List.Sums.{prefix_len_passes, prefix_len-le-length}
-use Rattle.preconv_converter.specs.declared.half.Half.{Half}
-use Rattle.preconv_converter.specs.declared.half.Line.{Line}
-use Rattle.preconv_converter.specs.declared.half.Line.TheVariants as lines
-use Rattle.preconv_converter.specs.declared.half.Before.{Before}
-use Rattle.preconv_converter.specs.declared.half.Before.TheVariants.{Character, Argument}
-use Rattle.preconv_converter.specs.declared.half.Mark.{Mark}
-use Rattle.preconv_converter.specs.declared.half.Mark.TheVariants.{Letter, Opening, Quote as QuoteMark, Stop, Closing, Closed, Other}
+use Rattle.preconv_lines.specs.declared.half.Half.{Half}
+use Rattle.preconv_lines.specs.declared.half.Line.{Line}
+use Rattle.preconv_lines.specs.declared.half.Line.TheVariants as lines
+use Rattle.preconv_characters.specs.declared.marks.Before.{Before}
+use Rattle.preconv_characters.specs.declared.marks.Before.TheVariants.{Character, Argument}
+use Rattle.preconv_characters.specs.declared.marks.Mark.{Mark}
+use Rattle.preconv_characters.specs.declared.marks.Mark.TheVariants.{Letter, Opening, Quote as QuoteMark}
+use Rattle.preconv_characters.specs.declared.marks.Mark.TheVariants.{Stop, Closing, Closed, Other}
 use Rattle.preconv_converter.specs.declared.reader.Reader.{Reader}
 use Rattle.preconv_converter.specs.declared.reader.Pending.TheVariants.{Nothing}
-use Rattle.preconv_converter.specs.Half.{is_plain, is_open}
-use Rattle.preconv_converter.specs.Hyphens.{mark_of, followed, placed, gone_by, turns_hyphens, closes, carriage_return, is_ascii_letter, is_opening, is_stop, is_closing, is_closer, has_ended, mark_after, line_after}
-use Rattle.preconv_converter.specs.declared.words.Words.{Words}
-use Rattle.preconv_converter.specs.declared.words.Place.{Place}
-use Rattle.preconv_converter.specs.declared.words.Place.TheVariants.{Quoted}
-use Rattle.preconv_converter.specs.declared.words.Class.{Class}
-use Rattle.preconv_converter.specs.declared.words.Class.TheVariants.{Space, Quote, Other as AnyClass}
-use Rattle.preconv_converter.specs.Words.{class_of, goes_on_at, goes_on_with, goes_on_with_space, spaced_at, after_space, is_ninth, words_at}
-use Rattle.preconv_converter.specs.Offering.{is_raw, may_pass, is_as_is, is_as_is_at, line_on, line_taken, taken_as_is}
+use Rattle.preconv_lines.specs.Half.{is_plain, is_open}
+use Rattle.preconv_characters.specs.Marks.{mark_of, followed, is_ascii_letter, is_opening, is_stop}
+use Rattle.preconv_characters.specs.Marks.{is_closing, is_closer, has_ended, mark_after}
+use Rattle.preconv_lines.specs.Hyphens.{placed, gone_by, turns_hyphens, closes, carriage_return, line_after}
+use Rattle.preconv_characters.specs.declared.words.Words.{Words}
+use Rattle.preconv_characters.specs.declared.words.Place.{Place}
+use Rattle.preconv_characters.specs.declared.words.Place.TheVariants.{Quoted}
+use Rattle.preconv_characters.specs.declared.words.Class.{Class}
+use Rattle.preconv_characters.specs.declared.words.Class.TheVariants.{Space, Quote, Other as AnyClass}
+use Rattle.preconv_characters.specs.Words.{class_of, goes_on_at, goes_on_with, goes_on_with_space, spaced_at}
+use Rattle.preconv_characters.specs.Words.{after_space, is_ninth, words_at}
+use Rattle.preconv_lines.specs.Offering.{is_raw, may_pass, is_as_is, is_as_is_at, line_on, line_taken}
+use Rattle.preconv_lines.specs.Offering.{taken_as_is}
 use Rattle.preconv_converter.specs.Reading.{emitted, with_half, read}
 use Rattle.preconv_converter.specs.Passing.{Passes}
-use Rattle.preconv_converter.specs.Runs.{goes_on_text, goes_on_word, goes_on_after, may_close, run_at, run_len, last_before, after_run}
+use Rattle.preconv_converter.specs.Runs.{goes_on_text, goes_on_word, goes_on_after, may_close, run_at}
+use Rattle.preconv_converter.specs.Runs.{run_len, last_before, after_run}
 use Rattle.preconv_converter.proofs.TextRuns.{run_goes, run_within}
 use Rattle.preconv_converter.proofs.Plain.{and-first, and-second, quoted_space, read_as_is, Passes-more}
 

@@ -6,17 +6,19 @@ use Rattle.std.proofs.lemmas.Bool.Decides.{nat_tests}
 use Rattle.std.proofs.Math.Utf8.{scalar, scalars, scalar_cases}
 use Rattle.std.specs.Prelude.{⊤, encode_utf8_all}
 use Rattle.std.specs.Char.{encode_utf8}
-use Rattle.preconv_converter.specs.declared.half.Coming.TheVariants.{Byte, Wide}
-use Rattle.preconv_converter.specs.declared.half.Dots.{Dots}
-use Rattle.preconv_converter.specs.declared.half.Line.{Line}
-use Rattle.preconv_converter.specs.declared.half.Line.TheVariants as lines
+use Rattle.preconv_lines.specs.declared.half.Coming.TheVariants.{Byte, Wide}
+use Rattle.preconv_lines.specs.declared.half.Dots.{Dots}
+use Rattle.preconv_lines.specs.declared.half.Line.{Line}
+use Rattle.preconv_lines.specs.declared.half.Line.TheVariants as lines
 use Rattle.preconv_converter.specs.declared.reader.Reader.{Reader}
 use Rattle.preconv_converter.specs.declared.reader.Pending.TheVariants.{Nothing, One, Two, Three}
-use Rattle.preconv_converter.specs.Numbers.{is_within}
-use Rattle.preconv_converter.specs.Saying.{sent}
-use Rattle.preconv_converter.specs.Lines.{after_ignored, one_dot_more, no_dot, line_passed, passing}
-use Rattle.preconv_converter.specs.Offering.{is_raw}
-use Rattle.preconv_converter.specs.Reading.{Emitted, is_lead, is_tail, is_second, low_six, emitted, preceded, then_emitted, with_half, pending_with, heard, stray, fresh, apart, whole, heard_byte, read, fed}
+use Rattle.preconv_characters.specs.Numbers.{is_within}
+use Rattle.preconv_characters.specs.Saying.{sent}
+use Rattle.preconv_lines.specs.Lines.{after_ignored, one_dot_more, no_dot, line_passed, passing}
+use Rattle.preconv_lines.specs.Offering.{is_raw}
+use Rattle.preconv_converter.specs.Reading.{Emitted, is_lead, is_tail, is_second, low_six, emitted, preceded}
+use Rattle.preconv_converter.specs.Reading.{then_emitted, with_half, pending_with, heard, stray, fresh, apart}
+use Rattle.preconv_converter.specs.Reading.{whole, heard_byte, read, fed}
 use Rattle.preconv_converter.specs.Characters.{coming_of, read_character, read_characters}
 use Rattle.preconv_converter.proofs.Reading.{emitted-eq, preceded-none, fed-append}
 use Rattle.preconv_converter.proofs.Plain.{and-first, and-second, none_heard, nothing_pending}

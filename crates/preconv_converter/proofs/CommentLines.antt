@@ -1,25 +1,27 @@
 -- A line that begins with a comment: its backslash is offered twice.
 use Prim.Native.Char.{code}
 use Rattle.std.proofs.Common.{◌≡◌, ℕ, List, [], ◌∷◌, take, Bool, true, false, ◌==◌, ◌&&◌, if◌then◌else◌, refl, sym, ◌∙◌, ap, subst}
-use Rattle.preconv_converter.specs.declared.half.Half.{Half}
-use Rattle.preconv_converter.specs.declared.half.Line.TheVariants as lines
-use Rattle.preconv_converter.specs.declared.half.Before.TheVariants.{Character}
-use Rattle.preconv_converter.specs.declared.half.Mark.TheVariants.{Stop, Other}
-use Rattle.preconv_converter.specs.declared.half.Escape.TheVariants as escapes
-use Rattle.preconv_converter.specs.declared.half.Coming.TheVariants as comings
-use Rattle.preconv_converter.specs.declared.said.Said.TheVariants as says
+use Rattle.preconv_lines.specs.declared.half.Half.{Half}
+use Rattle.preconv_lines.specs.declared.half.Line.TheVariants as lines
+use Rattle.preconv_characters.specs.declared.marks.Before.TheVariants.{Character}
+use Rattle.preconv_characters.specs.declared.marks.Mark.TheVariants.{Stop, Other}
+use Rattle.preconv_lines.specs.declared.half.Escape.TheVariants as escapes
+use Rattle.preconv_lines.specs.declared.half.Coming.TheVariants as comings
+use Rattle.preconv_characters.specs.declared.said.Said.TheVariants as says
 use Rattle.preconv_converter.specs.declared.reader.Reader.{Reader}
 use Rattle.preconv_converter.specs.declared.reader.Pending.TheVariants.{Nothing}
-use Rattle.preconv_converter.specs.Half.{Offered, taken, left, is_plain, without_escape}
-use Rattle.preconv_converter.specs.Hyphens.{placed}
-use Rattle.preconv_converter.specs.Saying.{bytes_of}
-use Rattle.preconv_converter.specs.Escapes.{in_escape}
-use Rattle.preconv_converter.specs.Offering.{offer, plain_byte}
-use Rattle.preconv_converter.specs.Reading.{Emitted, emitted, preceded, then_emitted, heard, heard_in, with_half, read, fed}
+use Rattle.preconv_lines.specs.Half.{Offered, taken, left, is_plain, without_escape}
+use Rattle.preconv_lines.specs.Hyphens.{placed}
+use Rattle.preconv_characters.specs.Saying.{bytes_of}
+use Rattle.preconv_lines.specs.Escapes.{in_escape}
+use Rattle.preconv_lines.specs.Offering.{offer, plain_byte}
+use Rattle.preconv_converter.specs.Reading.{Emitted, emitted, preceded, then_emitted, heard, heard_in}
+use Rattle.preconv_converter.specs.Reading.{with_half, read, fed}
 use Rattle.preconv_converter.specs.Runs.{begins_comment, after_comment}
 use Rattle.preconv_converter.proofs.Plain.{and-first, and-second, nothing_pending}
 use Rattle.preconv_converter.proofs.AtOnce.{placed_as, placed_escape}
-use Rattle.preconv_converter.proofs.PlainEscapes.{offers, is_one}
+use Rattle.preconv_converter.proofs.PlainEscapes.{offers}
+use Rattle.preconv_characters.proofs.Tests.{is_one}
 use Rattle.preconv_converter.proofs.Names.{after_dot, dot_read}
 
 -- ---- after the dot, and after the backslash

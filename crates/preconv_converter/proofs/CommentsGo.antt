@@ -2,22 +2,24 @@
 use Prim.Native.Char.{code}
 use Rattle.std.proofs.Common.{◌≡◌, ℕ, suc, ◌+◌, List, [], ◌∷◌, ◌++◌, length, Bool, true, false, not, ◌==◌, nat_lt, if◌then◌else◌, refl, sym, ◌∙◌, ap, append-nil, arith}
 use Rattle.std.specs.Prelude.{codes}
-use Rattle.preconv_converter.specs.declared.target.Target.{Target}
-use Rattle.preconv_converter.specs.declared.said.Said.TheVariants as says
-use Rattle.preconv_converter.specs.declared.half.Half.{Half}
-use Rattle.preconv_converter.specs.declared.half.Line.TheVariants as lines
-use Rattle.preconv_converter.specs.declared.half.Before.TheVariants as befores
-use Rattle.preconv_converter.specs.declared.half.Mark.TheVariants as marks
+use Rattle.preconv_characters.specs.declared.target.Target.{Target}
+use Rattle.preconv_characters.specs.declared.said.Said.TheVariants as says
+use Rattle.preconv_lines.specs.declared.half.Half.{Half}
+use Rattle.preconv_lines.specs.declared.half.Line.TheVariants as lines
+use Rattle.preconv_characters.specs.declared.marks.Before.TheVariants as befores
+use Rattle.preconv_characters.specs.declared.marks.Mark.TheVariants as marks
 use Rattle.preconv_converter.specs.declared.reader.Reader.{Reader}
 use Rattle.preconv_converter.specs.declared.reader.Pending.TheVariants as pendings
-use Rattle.preconv_converter.specs.Saying.{sent}
+use Rattle.preconv_characters.specs.Saying.{sent}
 use Rattle.preconv_converter.specs.Reading.{Emitted, emitted, preceded, then_emitted, fed}
 use Rattle.preconv_converter.specs.Runs.{goes_on_comment}
 use Rattle.preconv_converter.specs.Pieces.{Piece, Same, all_were, all_become}
 use Rattle.preconv_converter.specs.WrittenLines.{each}
 use Rattle.preconv_converter.proofs.Plain.{and-first, and-second, is_not}
-use Rattle.preconv_converter.proofs.Sent.{sent_is, ascii-goes}
-use Rattle.preconv_converter.proofs.Spots.{open_half, Spot, Starts, Rests, Controls, RestBegins, begins, at, hears_taken, hears_left, Reads, reads_byte, byte_read}
+use Rattle.preconv_characters.proofs.SentWhole.{sent_is}
+use Rattle.preconv_converter.proofs.Sent.{ascii-goes}
+use Rattle.preconv_converter.proofs.Spots.{open_half, Spot, Starts, Rests, Controls, RestBegins, begins, at}
+use Rattle.preconv_converter.proofs.Spots.{hears_taken, hears_left, Reads, reads_byte, byte_read}
 
 pub sames : List ℕ → List Piece
 sames [] = []

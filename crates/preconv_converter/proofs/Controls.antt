@@ -4,30 +4,34 @@ use Rattle.std.proofs.Common.{◌≡◌, ℕ, zero, suc, ◌+◌, ◌<◌, ◌�
 use Rattle.std.specs.List.{prefix_len}
 use Rattle.std.proofs.lemmas.List.{length-take, take_more}
 use Rattle.std.proofs.lemmas.List.Sums.{prefix_len-le-length}
-use Rattle.preconv_converter.specs.declared.target.Target.{Target}
+use Rattle.preconv_characters.specs.declared.target.Target.{Target}
 use Rattle.nr_units.specs.Name.{capacity, is_full}
-use Rattle.preconv_converter.specs.declared.said.Said.TheVariants as says
-use Rattle.preconv_converter.specs.declared.beginnings.Opens.{Opens}
-use Rattle.preconv_converter.specs.declared.beginnings.Opens.TheVariants as opens
-use Rattle.preconv_converter.specs.declared.half.Half.{Half}
-use Rattle.preconv_converter.specs.declared.half.Mark.TheVariants.{Stop}
-use Rattle.preconv_converter.specs.declared.half.Coming.TheVariants as comings
+use Rattle.preconv_characters.specs.declared.said.Said.TheVariants as says
+use Rattle.preconv_characters.specs.declared.beginnings.Opens.{Opens}
+use Rattle.preconv_characters.specs.declared.beginnings.Opens.TheVariants as opens
+use Rattle.preconv_lines.specs.declared.half.Half.{Half}
+use Rattle.preconv_characters.specs.declared.marks.Mark.TheVariants.{Stop}
+use Rattle.preconv_lines.specs.declared.half.Coming.TheVariants as comings
 use Rattle.preconv_converter.specs.declared.reader.Reader.{Reader}
 use Rattle.preconv_converter.specs.declared.reader.Pending.TheVariants.{Nothing}
-use Rattle.preconv_converter.specs.Half.{Offered, taken, is_plain, is_open}
-use Rattle.preconv_converter.specs.Beginnings.{opened, said_name, goes_out}
-use Rattle.preconv_converter.specs.Saying.{all_sent, bytes_of}
-use Rattle.preconv_converter.specs.Escapes.{in_escape}
-use Rattle.preconv_converter.specs.Lines.{ends_name, line_of, manual_by, opening, named_line, in_line}
-use Rattle.preconv_converter.specs.Offering.{offer, plain_byte, beginning, is_as_is, is_as_is_at}
-use Rattle.preconv_converter.specs.Reading.{Emitted, emitted, preceded, then_emitted, heard, heard_in, with_half, read, fed}
-use Rattle.preconv_converter.specs.Runs.{goes_on_name, dotted_len, is_start, name_len, after_name, after_control, is_end}
+use Rattle.preconv_lines.specs.Half.{Offered, taken, is_plain, is_open}
+use Rattle.preconv_characters.specs.Beginnings.{opened, said_name, goes_out}
+use Rattle.preconv_characters.specs.Saying.{all_sent, bytes_of}
+use Rattle.preconv_lines.specs.Escapes.{in_escape}
+use Rattle.preconv_lines.specs.Lines.{ends_name, line_of, manual_by, opening, named_line, in_line}
+use Rattle.preconv_lines.specs.Offering.{offer, plain_byte, beginning, is_as_is, is_as_is_at}
+use Rattle.preconv_converter.specs.Reading.{Emitted, emitted, preceded, then_emitted, heard, heard_in}
+use Rattle.preconv_converter.specs.Reading.{with_half, read, fed}
+use Rattle.preconv_converter.specs.Runs.{goes_on_name, dotted_len, is_start, name_len, after_name}
+use Rattle.preconv_converter.specs.Runs.{after_control, is_end}
 use Rattle.preconv_converter.proofs.Plain.{is_not, nothing_pending, heard_as_is}
 use Rattle.preconv_converter.proofs.Reading.{fed-append}
 use Rattle.preconv_converter.proofs.AtOnce.{placed_escape, placed_open}
-use Rattle.preconv_converter.proofs.PlainEscapes.{is_one}
-use Rattle.preconv_converter.proofs.Names.{is_ascii, dotted_is, dotted_value, both_first, both_value, name_fed}
-use Rattle.preconv_converter.proofs.Sent.{sent_is, ascii-goes}
+use Rattle.preconv_characters.proofs.Tests.{is_one}
+use Rattle.preconv_converter.proofs.Names.{is_ascii, dotted_is, dotted_value, both_first, both_value}
+use Rattle.preconv_converter.proofs.Names.{name_fed}
+use Rattle.preconv_characters.proofs.SentWhole.{sent_is}
+use Rattle.preconv_converter.proofs.Sent.{ascii-goes}
 
 -- ---- the name goes out
 

@@ -6,10 +6,10 @@ use Rattle.document_stages.specs.Running as runs
 use Rattle.document_stages.specs.Running.{at_most}
 use Rattle.document_stages.specs.declared.running.RunEnd.{RunEnd}
 use Rattle.document_stages.proofs.Runs.{Ran-counted, Ran-known}
-use Rattle.preconv_converter.specs.declared.target.Target.{Target}
+use Rattle.preconv_characters.specs.declared.target.Target.{Target}
 use Rattle.preconv_converter.specs.Reading.{first_reader}
 use Rattle.preconv_converter.specs.Running.{Ran}
-use Rattle.preconv_converter.specs.Saying.{may_go_out}
+use Rattle.preconv_characters.specs.Saying.{may_go_out}
 use Rattle.preconv_converter.specs.Staged.{counted, said, steps_said}
 use Rattle.preconv_converter.proofs.Sent.{converted-shown, fed-shown}
 use Rattle.preconv_converter.proofs.Steps.{steps_said-quick}

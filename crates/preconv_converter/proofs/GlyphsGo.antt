@@ -1,25 +1,29 @@
 -- A character by a name of two bytes goes out as what it looks like.
 use Prim.Native.Char.{code}
 use Rattle.std.proofs.Common.{◌≡◌, ℕ, List, [], ◌∷◌, Bool, true, false, not, ◌&&◌, Option, None, Some, refl, sym, ◌∙◌, ap, append-nil}
-use Rattle.preconv_converter.specs.declared.target.Target.{Target}
-use Rattle.preconv_converter.specs.declared.said.Said.TheVariants as says
-use Rattle.preconv_converter.specs.declared.half.Half.{Half}
-use Rattle.preconv_converter.specs.declared.half.Line.{Line}
-use Rattle.preconv_converter.specs.declared.half.Mark.{Mark}
-use Rattle.preconv_converter.specs.declared.half.Coming.TheVariants as comings
-use Rattle.preconv_converter.specs.Half.{taken, in_text as text_of, with_text, without_escape, is_space, is_text as text_at}
-use Rattle.preconv_converter.specs.Hyphens.{placed, wide_mark}
-use Rattle.preconv_converter.specs.Endings.{keeping, spelling}
-use Rattle.preconv_converter.specs.Glyphs.{is_pair, is_native, pair_code}
-use Rattle.preconv_converter.specs.Named.{is_translation}
-use Rattle.preconv_converter.specs.Likeness.{likeness}
-use Rattle.preconv_converter.specs.Saying.{all_sent}
-use Rattle.preconv_converter.specs.Offering.{offer}
+use Rattle.preconv_characters.specs.declared.target.Target.{Target}
+use Rattle.preconv_characters.specs.declared.said.Said.TheVariants as says
+use Rattle.preconv_lines.specs.declared.half.Half.{Half}
+use Rattle.preconv_lines.specs.declared.half.Line.{Line}
+use Rattle.preconv_characters.specs.declared.marks.Mark.{Mark}
+use Rattle.preconv_lines.specs.declared.half.Coming.TheVariants as comings
+use Rattle.preconv_lines.specs.Half.{taken, in_text as text_of, with_text, without_escape, is_space}
+use Rattle.preconv_lines.specs.Half.{is_text as text_at}
+use Rattle.preconv_characters.specs.Marks.{wide_mark}
+use Rattle.preconv_lines.specs.Hyphens.{placed}
+use Rattle.preconv_lines.specs.Endings.{keeping, spelling}
+use Rattle.preconv_characters.specs.Glyphs.{is_pair, is_native, pair_code}
+use Rattle.preconv_lines.specs.Named.{is_translation}
+use Rattle.preconv_characters.specs.Likeness.{likeness}
+use Rattle.preconv_characters.specs.Saying.{all_sent}
+use Rattle.preconv_lines.specs.Offering.{offer}
 use Rattle.preconv_converter.specs.Pieces.{Named}
 use Rattle.preconv_converter.specs.WrittenLines.{is_text, is_same, names, Glyph, is_sign}
 use Rattle.preconv_converter.proofs.AtOnce.{placed_as}
 use Rattle.preconv_converter.proofs.Plain.{and-first, and-second, is_not}
-use Rattle.preconv_converter.proofs.Spots.{open_half, pair_half, one_half, Where, line_of_where, Spot, Pairs, Ones, half_of, held, hears_taken, Reads, reads_byte, reads_none, named, reads_exact}
+use Rattle.preconv_converter.proofs.Spots.{open_half, pair_half, one_half, Where, line_of_where, Spot, Pairs}
+use Rattle.preconv_converter.proofs.Spots.{Ones, half_of, held, hears_taken, Reads, reads_byte, reads_none}
+use Rattle.preconv_converter.proofs.Spots.{named, reads_exact}
 use Rattle.preconv_converter.proofs.TextGoes.{IsText, text_is, no_both, same_byte}
 
 pub record IsGlyph (a b c : ℕ) : Type 0 where

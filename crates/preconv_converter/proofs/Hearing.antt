@@ -1,13 +1,15 @@
--- A character is offered until it is taken.
-use Rattle.std.proofs.Common.{◌≡◌, ℕ, suc, ◌-◌, ◌<◌, [], ◌++◌, Bool, true, false, if◌then◌else◌, sym, ◌∙◌, ap, arith}
-use Rattle.preconv_converter.specs.declared.half.Half.{Half}
-use Rattle.preconv_converter.specs.declared.half.Seen.{Seen}
-use Rattle.preconv_converter.specs.declared.half.Coming.{Coming}
+-- A character is offered until it is taken; one beyond ASCII in a text line is taken at once.
+use Rattle.std.proofs.Common.{◌≡◌, ℕ, suc, ◌-◌, ◌<◌, List, [], ◌++◌, Bool, true, false, if◌then◌else◌, refl, sym, ◌∙◌, ap, append-nil, arith}
+use Rattle.preconv_characters.specs.declared.said.Said.TheVariants.{Character}
+use Rattle.preconv_lines.specs.declared.half.Half.{Half}
+use Rattle.preconv_lines.specs.declared.half.Seen.{Seen}
+use Rattle.preconv_lines.specs.declared.half.Coming.{Coming}
+use Rattle.preconv_lines.specs.declared.half.Coming.TheVariants.{Wide}
 use Rattle.preconv_converter.specs.declared.reader.Reader.{Reader}
-use Rattle.preconv_converter.specs.Half.{Offered, offered}
-use Rattle.preconv_converter.specs.Saying.{bytes_of}
-use Rattle.preconv_converter.specs.Offering.{offer}
-use Rattle.preconv_converter.specs.Reading.{Emitted, emitted, preceded, with_half, heard_in}
+use Rattle.preconv_lines.specs.Half.{Offered, offered, taken}
+use Rattle.preconv_characters.specs.Saying.{bytes_of}
+use Rattle.preconv_lines.specs.Offering.{offer}
+use Rattle.preconv_converter.specs.Reading.{Emitted, emitted, preceded, with_half, heard_in, heard}
 
 -- what comes of one meeting
 after_offered : ℕ → Coming → Reader → Offered → Emitted
@@ -33,3 +35,9 @@ unfolding after_offered
 heard_left n c r h seen p l takes =
     offered_once n c r h seen p l
     ∙ ap (λ (b : Bool). preceded (bytes_of r.table seen.said) 1 (if b then emitted (with_half h r) [] 0 else heard_in (n - 1) c (with_half h r))) takes
+
+pub wide_heard : (c : ℕ) (r : Reader) (h : Half) → taken (Character c) h ≡ offer (Wide c) r.half → heard (Wide c) r ≡ emitted (with_half h r) (bytes_of r.table (Character c)) 1
+unfolding heard
+wide_heard c r h e =
+    heard_taken 6 (Wide c) r h (record { said = Character c; takes = true }) e (omega arith) refl
+    ∙ ap (λ (bytes : List ℕ). emitted (with_half h r) bytes 1) (append-nil (bytes_of r.table (Character c)))

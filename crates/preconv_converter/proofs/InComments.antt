@@ -3,18 +3,19 @@ use Prim.Native.Char.{code}
 use Rattle.std.proofs.Common.{◌≡◌, ℕ, zero, suc, ◌<◌, ◌≤◌, List, [], ◌∷◌, length, get_or, Bool, true, false, not, ◌==◌, nat_lt, if◌then◌else◌, refl, sym, ◌∙◌, ap, subst, add-one, arith}
 use Rattle.std.specs.List.{prefix_len}
 use Rattle.std.proofs.lemmas.List.Sums.{prefix_len_passes, prefix_len-le-length}
-use Rattle.preconv_converter.specs.declared.half.Half.{Half}
-use Rattle.preconv_converter.specs.declared.half.Line.{Line}
-use Rattle.preconv_converter.specs.declared.half.Line.TheVariants as lines
+use Rattle.preconv_lines.specs.declared.half.Half.{Half}
+use Rattle.preconv_lines.specs.declared.half.Line.{Line}
+use Rattle.preconv_lines.specs.declared.half.Line.TheVariants as lines
 use Rattle.preconv_converter.specs.declared.reader.Reader.{Reader}
-use Rattle.preconv_converter.specs.Lines.{passing, line_passed}
-use Rattle.preconv_converter.specs.Offering.{is_raw}
-use Rattle.preconv_converter.specs.Saying.{sent}
+use Rattle.preconv_lines.specs.Lines.{passing, line_passed}
+use Rattle.preconv_lines.specs.Offering.{is_raw}
+use Rattle.preconv_characters.specs.Saying.{sent}
 use Rattle.preconv_converter.specs.Reading.{emitted, with_half, read, heard_byte}
 use Rattle.preconv_converter.specs.Passing.{Passes}
 use Rattle.preconv_converter.specs.Runs.{goes_on_comment, comment_at, comment_len}
 use Rattle.preconv_converter.proofs.Plain.{and-first, and-second, is_not, Passes-more}
-use Rattle.preconv_converter.proofs.Sent.{sent_is, ascii-goes}
+use Rattle.preconv_characters.proofs.SentWhole.{sent_is}
+use Rattle.preconv_converter.proofs.Sent.{ascii-goes}
 
 line_stays : (b : ℕ) (h : Half) → h.line ≡ lines.Comment → (b == code "\n") ≡ false → line_passed h.line b ≡ h.line
 line_stays b h line p =

@@ -7,17 +7,13 @@ pub mod Controls
 pub mod GlyphsGo
 pub mod Hearing
 pub mod InComments
-pub mod Itself
 pub mod LinesGo
-pub mod MarksRead
 pub mod Names
-pub mod OpeningTable
 pub mod Plain
 pub mod PlainEscapes
 pub mod Reading
 pub mod SaidParts
 pub mod Sent
-pub mod SentWhole
 pub mod SignsGo
 pub mod Spots
 pub mod Steps
@@ -28,7 +24,6 @@ pub mod TextTable
 pub mod Unchanged
 pub mod Unread
 pub mod WholeTaken
-pub mod WideText
 pub mod WordSigns
 pub mod WordsBegun
 pub mod WordsGo

@@ -4,42 +4,53 @@ use Rattle.std.proofs.Common.{◌≡◌, ℕ, suc, ◌+◌, ◌<◌, List, [], �
 use Rattle.std.specs.Prelude.{codes}
 use Rattle.std.proofs.lemmas.Bool.Decides.{nat_tests}
 use Rattle.nr_units.specs.Name.{is_full}
-use Rattle.preconv_converter.specs.declared.target.Target.{Target}
-use Rattle.preconv_converter.specs.declared.said.Said.TheVariants as says
-use Rattle.preconv_converter.specs.declared.half.Half.{Half}
-use Rattle.preconv_converter.specs.declared.half.Line.TheVariants as lines
-use Rattle.preconv_converter.specs.declared.half.Mark.{Mark}
-use Rattle.preconv_converter.specs.declared.half.Coming.TheVariants as comings
-use Rattle.preconv_converter.specs.declared.beginnings.Opens.{Opens}
-use Rattle.preconv_converter.specs.declared.beginnings.Opens.TheVariants as opens
-use Rattle.preconv_converter.specs.declared.words.Words.{Words}
-use Rattle.preconv_converter.specs.declared.words.Place.TheVariants as places
-use Rattle.preconv_converter.specs.declared.words.Fonts.{Fonts}
-use Rattle.preconv_converter.specs.declared.words.Fonts.TheVariants as fonts
-use Rattle.preconv_converter.specs.Words.{first_words}
-use Rattle.preconv_converter.specs.Half.{taken, left}
-use Rattle.preconv_converter.specs.Hyphens.{mark_of, placed, saying, in_text as text_offered, line_after}
-use Rattle.preconv_converter.specs.Saying.{all_sent}
-use Rattle.preconv_converter.specs.Beginnings.{opened, said_name}
-use Rattle.preconv_converter.specs.Conditions.{is_gap}
-use Rattle.preconv_converter.specs.Lines.{is_control, ends_name, control as control_offered, naming, named_line, follows_tag, begins_apart, breaking, at_start, opening}
-use Rattle.preconv_converter.specs.Offering.{offer, beginning}
-use Rattle.preconv_converter.specs.Reading.{Emitted, emitted, preceded, then_emitted, fed, finished, first_reader}
+use Rattle.preconv_characters.specs.declared.target.Target.{Target}
+use Rattle.preconv_characters.specs.declared.said.Said.TheVariants as says
+use Rattle.preconv_lines.specs.declared.half.Half.{Half}
+use Rattle.preconv_lines.specs.declared.half.Line.TheVariants as lines
+use Rattle.preconv_characters.specs.declared.marks.Mark.{Mark}
+use Rattle.preconv_lines.specs.declared.half.Coming.TheVariants as comings
+use Rattle.preconv_characters.specs.declared.beginnings.Opens.{Opens}
+use Rattle.preconv_characters.specs.declared.beginnings.Opens.TheVariants as opens
+use Rattle.preconv_characters.specs.declared.words.Words.{Words}
+use Rattle.preconv_characters.specs.declared.words.Place.TheVariants as places
+use Rattle.preconv_characters.specs.declared.words.Fonts.{Fonts}
+use Rattle.preconv_characters.specs.declared.words.Fonts.TheVariants as fonts
+use Rattle.preconv_characters.specs.Words.{first_words}
+use Rattle.preconv_lines.specs.Half.{taken, left}
+use Rattle.preconv_characters.specs.Marks.{mark_of}
+use Rattle.preconv_lines.specs.Hyphens.{placed, saying, in_text as text_offered, line_after}
+use Rattle.preconv_characters.specs.Saying.{all_sent}
+use Rattle.preconv_characters.specs.Beginnings.{opened, said_name}
+use Rattle.preconv_lines.specs.Conditions.{is_gap}
+use Rattle.preconv_lines.specs.Lines.{is_control, ends_name, control as control_offered, naming, named_line}
+use Rattle.preconv_lines.specs.Lines.{follows_tag, begins_apart, breaking, at_start, opening}
+use Rattle.preconv_lines.specs.Offering.{offer, beginning}
+use Rattle.preconv_converter.specs.Reading.{Emitted, emitted, preceded, then_emitted, fed, finished}
+use Rattle.preconv_converter.specs.Reading.{first_reader}
 use Rattle.preconv_converter.specs.Pieces.{Piece, Same, all_were, all_become}
-use Rattle.preconv_converter.specs.WrittenLines.{is_sign, all_are, begins_text, is_text, each, is_letter, passes, is_name, begins_blank, is_word, are_words, written_word, written_words, takes_words, is_line, are_lines, written_line, written_lines}
+use Rattle.preconv_converter.specs.WrittenLines.{is_sign, all_are, begins_text, is_text, each, is_letter}
+use Rattle.preconv_converter.specs.WrittenLines.{passes, is_name, begins_blank, is_word, are_words}
+use Rattle.preconv_converter.specs.WrittenLines.{written_word, written_words, takes_words, is_line, are_lines}
+use Rattle.preconv_converter.specs.WrittenLines.{written_line, written_lines}
 use Rattle.preconv_converter.specs.WordLaws.{LinesGoOut, PagesGoOut}
 use Rattle.preconv_converter.specs.WrittenLines as written
 use Rattle.preconv_converter.proofs.AtOnce.{placed_as}
 use Rattle.preconv_converter.proofs.Plain.{and-first, and-second, is_not}
 use Rattle.preconv_converter.proofs.Reading.{fed-append}
-use Rattle.preconv_converter.proofs.Sent.{sent_is, ascii-goes}
+use Rattle.preconv_characters.proofs.SentWhole.{sent_is}
+use Rattle.preconv_converter.proofs.Sent.{ascii-goes}
 use Rattle.preconv_converter.specs.Runs.{goes_on_comment}
 use Rattle.preconv_converter.proofs.CommentsGo.{sames, sames_become, sames_were, comment_reads}
 use Rattle.preconv_converter.proofs.SignsGo.{text_line}
 use Rattle.preconv_converter.proofs.WordsGo.{between, ends, blank_hears, newline_hears as words_end}
 use Rattle.preconv_converter.proofs.WordSigns.{word_reads, words_read}
-use Rattle.preconv_converter.proofs.Spots.{open_half, name_half, Among, Spot, Starts, Flows, Rests, Stores, Closes, Controls, Names, half_of, held, begins, in_rest, at, Hears, hears_taken, hears_left, Reads, reads_byte, reads_both, reads_none, named, reads_exact, all_become-append, all_were-append}
-use Rattle.preconv_converter.proofs.TextGoes.{IsText, text_is, same_byte, saying_is, same_takes, empty_hears, line_hears}
+use Rattle.preconv_converter.proofs.Spots.{open_half, name_half, Among, Spot, Starts, Flows, Rests, Stores}
+use Rattle.preconv_converter.proofs.Spots.{Closes, Controls, Names, half_of, held, begins, in_rest, at, Hears}
+use Rattle.preconv_converter.proofs.Spots.{hears_taken, hears_left, Reads, reads_byte, reads_both, reads_none}
+use Rattle.preconv_converter.proofs.Spots.{named, reads_exact, all_become-append, all_were-append}
+use Rattle.preconv_converter.proofs.TextGoes.{IsText, text_is, same_byte, saying_is, same_takes, empty_hears}
+use Rattle.preconv_converter.proofs.TextGoes.{line_hears}
 
 -- ---- an empty line
 

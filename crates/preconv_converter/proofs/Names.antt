@@ -6,26 +6,27 @@ use Rattle.std.proofs.lemmas.Bool.Decides.{nat_tests}
 use Rattle.std.proofs.lemmas.List.{length-take, take_more}
 use Rattle.std.proofs.lemmas.List.Sums.{prefix_len_passes, prefix_len-le-length}
 use Rattle.nr_units.specs.Name.{capacity, is_full}
-use Rattle.preconv_converter.specs.declared.half.Half.{Half}
-use Rattle.preconv_converter.specs.declared.half.Mark.TheVariants.{Stop}
-use Rattle.preconv_converter.specs.declared.half.Line.{Line}
-use Rattle.preconv_converter.specs.declared.half.Line.TheVariants as lines
-use Rattle.preconv_converter.specs.declared.half.Coming.TheVariants as comings
-use Rattle.preconv_converter.specs.declared.said.Said.TheVariants as says
+use Rattle.preconv_lines.specs.declared.half.Half.{Half}
+use Rattle.preconv_characters.specs.declared.marks.Mark.TheVariants.{Stop}
+use Rattle.preconv_lines.specs.declared.half.Line.{Line}
+use Rattle.preconv_lines.specs.declared.half.Line.TheVariants as lines
+use Rattle.preconv_lines.specs.declared.half.Coming.TheVariants as comings
+use Rattle.preconv_characters.specs.declared.said.Said.TheVariants as says
 use Rattle.preconv_converter.specs.declared.reader.Reader.{Reader}
 use Rattle.preconv_converter.specs.declared.reader.Pending.TheVariants.{Nothing}
-use Rattle.preconv_converter.specs.Half.{taken, is_plain}
-use Rattle.preconv_converter.specs.Hyphens.{placed}
-use Rattle.preconv_converter.specs.Conditions.{is_gap}
-use Rattle.preconv_converter.specs.Escapes.{in_escape}
-use Rattle.preconv_converter.specs.Lines.{ends_name, naming, blanks_said, named_line, in_line, in_line_at}
-use Rattle.preconv_converter.specs.Offering.{offer, plain_byte, beginning, is_raw}
+use Rattle.preconv_lines.specs.Half.{taken, is_plain}
+use Rattle.preconv_lines.specs.Hyphens.{placed}
+use Rattle.preconv_lines.specs.Conditions.{is_gap}
+use Rattle.preconv_lines.specs.Escapes.{in_escape}
+use Rattle.preconv_lines.specs.Lines.{ends_name, naming, blanks_said, named_line, in_line, in_line_at}
+use Rattle.preconv_lines.specs.Offering.{offer, plain_byte, beginning, is_raw}
 use Rattle.preconv_converter.specs.Reading.{Emitted, emitted, preceded, then_emitted, with_half, read, fed}
 use Rattle.preconv_converter.specs.Runs.{goes_on_name, dotted_len, is_start, name_len, after_name}
 use Rattle.preconv_converter.proofs.Plain.{and-first, and-second, is_not}
 use Rattle.preconv_converter.proofs.Reading.{fed-append}
 use Rattle.preconv_converter.proofs.AtOnce.{placed_as, placed_escape}
-use Rattle.preconv_converter.proofs.PlainEscapes.{offers, is_one}
+use Rattle.preconv_converter.proofs.PlainEscapes.{offers}
+use Rattle.preconv_characters.proofs.Tests.{is_one}
 
 -- ---- a byte of a name
 

@@ -4,36 +4,45 @@ use Rattle.std.proofs.Common.{◌≡◌, ℕ, suc, ◌+◌, ◌-◌, ◌<◌, �
 use Rattle.std.proofs.Math.Seq.{take-suc, take-add}
 use Rattle.std.proofs.lemmas.Bool.Decides.{nat_tests}
 use Rattle.std.proofs.lemmas.List.{take-take}
-use Rattle.preconv_converter.specs.declared.half.Half.{Half}
-use Rattle.preconv_converter.specs.declared.half.Line.{Line}
-use Rattle.preconv_converter.specs.declared.half.Line.TheVariants as lines
-use Rattle.preconv_converter.specs.declared.half.Coming.TheVariants as comings
-use Rattle.preconv_converter.specs.declared.said.Said.{Said}
-use Rattle.preconv_converter.specs.declared.said.Said.TheVariants as says
-use Rattle.preconv_converter.specs.declared.words.Words.{Words}
-use Rattle.preconv_converter.specs.declared.words.Emitted.{Emitted as WordsEmitted}
-use Rattle.preconv_converter.specs.declared.words.Fonts.{Fonts}
-use Rattle.preconv_converter.specs.declared.words.Fonts.TheVariants.{One, Same, Turn, Tag}
-use Rattle.preconv_converter.specs.declared.words.Place.{Place}
-use Rattle.preconv_converter.specs.declared.words.Place.TheVariants.{Between, Inside, Quoted}
-use Rattle.preconv_converter.specs.declared.words.Class.{Class}
-use Rattle.preconv_converter.specs.declared.words.Class.TheVariants.{Space, Quote, Other}
+use Rattle.preconv_lines.specs.declared.half.Half.{Half}
+use Rattle.preconv_lines.specs.declared.half.Line.{Line}
+use Rattle.preconv_lines.specs.declared.half.Line.TheVariants as lines
+use Rattle.preconv_lines.specs.declared.half.Coming.TheVariants as comings
+use Rattle.preconv_characters.specs.declared.said.Said.{Said}
+use Rattle.preconv_characters.specs.declared.said.Said.TheVariants as says
+use Rattle.preconv_characters.specs.declared.words.Words.{Words}
+use Rattle.preconv_characters.specs.declared.words.Emitted.{Emitted as WordsEmitted}
+use Rattle.preconv_characters.specs.declared.words.Fonts.{Fonts}
+use Rattle.preconv_characters.specs.declared.words.Fonts.TheVariants.{One, Same, Turn, Tag}
+use Rattle.preconv_characters.specs.declared.words.Place.{Place}
+use Rattle.preconv_characters.specs.declared.words.Place.TheVariants.{Between, Inside, Quoted}
+use Rattle.preconv_characters.specs.declared.words.Class.{Class}
+use Rattle.preconv_characters.specs.declared.words.Class.TheVariants.{Space, Quote, Other}
 use Rattle.preconv_converter.specs.declared.reader.Reader.{Reader}
 use Rattle.preconv_converter.specs.declared.reader.Pending.{Pending}
 use Rattle.preconv_converter.specs.declared.reader.Pending.TheVariants as pendings
-use Rattle.preconv_converter.specs.Half.{Offered, taken, left, is_plain, is_open, is_read}
-use Rattle.preconv_converter.specs.Translations.{translated}
-use Rattle.preconv_converter.specs.Hyphens.{mark_of, followed, gone_by, saying, hyphen, turns_hyphens, carriage_return, is_moved, moved, closes, newline_held, in_text, line_after}
-use Rattle.preconv_converter.specs.Words.{goes_on_at, goes_on_with, goes_on_with_space, spaced_at, after_space, begins_word, is_ninth, class_of, words_at, blank_by, offered_at}
-use Rattle.preconv_converter.specs.Words.{is_as_is as word_as_is, taken_as_is as word_taken}
-use Rattle.preconv_converter.specs.Saying.{bytes_of, sent}
-use Rattle.preconv_converter.specs.Escapes.{in_escape}
-use Rattle.preconv_converter.specs.Lines.{is_control, control, as_offered, among_words, follows_tag, begins_apart, breaking, at_start, after_fonts, word_moved, in_words, in_rest, in_line_at, in_line, takes_escape, passing}
-use Rattle.preconv_converter.specs.Offering.{offer, plain_byte, beginning, is_raw, may_pass, is_text_as_is, is_as_is_at, is_as_is, line_taken, taken_as_is}
-use Rattle.preconv_converter.specs.Reading.{Emitted, emitted, preceded, then_emitted, heard, heard_in, with_half, pending_with, strays, fresh, heard_after, heard_byte, read, fed, is_lead, stray}
+use Rattle.preconv_lines.specs.Half.{Offered, taken, left, is_plain, is_open, is_read}
+use Rattle.preconv_lines.specs.Translations.{translated}
+use Rattle.preconv_characters.specs.Marks.{mark_of, followed}
+use Rattle.preconv_lines.specs.Hyphens.{gone_by, saying, hyphen, turns_hyphens, carriage_return, is_moved}
+use Rattle.preconv_lines.specs.Hyphens.{moved, closes, newline_held, in_text, line_after}
+use Rattle.preconv_characters.specs.Words.{goes_on_at, goes_on_with, goes_on_with_space, spaced_at}
+use Rattle.preconv_characters.specs.Words.{after_space, begins_word, is_ninth, class_of, words_at, blank_by}
+use Rattle.preconv_characters.specs.Words.{offered_at, is_as_is as word_as_is, taken_as_is as word_taken}
+use Rattle.preconv_characters.specs.Saying.{bytes_of, sent}
+use Rattle.preconv_lines.specs.Escapes.{in_escape}
+use Rattle.preconv_lines.specs.Lines.{is_control, control, as_offered, among_words, follows_tag, begins_apart}
+use Rattle.preconv_lines.specs.Lines.{breaking, at_start, after_fonts, word_moved, in_words, in_rest}
+use Rattle.preconv_lines.specs.Lines.{in_line_at, in_line, takes_escape, passing}
+use Rattle.preconv_lines.specs.Offering.{offer, plain_byte, beginning, is_raw, may_pass, is_text_as_is}
+use Rattle.preconv_lines.specs.Offering.{is_as_is_at, is_as_is, line_taken, taken_as_is}
+use Rattle.preconv_converter.specs.Reading.{Emitted, emitted, preceded, then_emitted, heard, heard_in}
+use Rattle.preconv_converter.specs.Reading.{with_half, pending_with, strays, fresh, heard_after, heard_byte}
+use Rattle.preconv_converter.specs.Reading.{read, fed, is_lead, stray}
 use Rattle.preconv_converter.specs.Passing.{Passes}
 use Rattle.preconv_converter.proofs.Reading.{preceded-none, fed-append}
-use Rattle.preconv_converter.proofs.Sent.{sent_is, ascii-goes}
+use Rattle.preconv_characters.proofs.SentWhole.{sent_is}
+use Rattle.preconv_converter.proofs.Sent.{ascii-goes}
 
 pub and-first : (x y : Bool) → (x && y) ≡ true → x ≡ true
 and-first true y h = refl

@@ -1,31 +1,33 @@
 -- Escapes that go out as they are: those of two bytes, and fonts.
 use Prim.Native.Char.{code}
-use Rattle.std.proofs.Common.{get_or, ◌≡◌, ℕ, List, [], ◌∷◌, ◌++◌, Bool, true, false, ◌==◌, ◌&&◌, ◌||◌, nat_lt, if◌then◌else◌, refl, sym, ◌∙◌, ap, subst, arith}
-use Rattle.std.proofs.lemmas.Bool.Decides.{nat_tests}
-use Rattle.preconv_converter.specs.declared.half.Half.{Half}
-use Rattle.preconv_converter.specs.declared.half.Mark.TheVariants.{Other}
-use Rattle.preconv_converter.specs.declared.half.Line.{Line}
-use Rattle.preconv_converter.specs.declared.half.Line.TheVariants as lines
-use Rattle.preconv_converter.specs.declared.half.Escape.{Escape}
-use Rattle.preconv_converter.specs.declared.half.Escape.TheVariants as escapes
-use Rattle.preconv_converter.specs.declared.half.Kind.TheVariants as kinds
-use Rattle.preconv_converter.specs.declared.half.Coming.TheVariants as comings
-use Rattle.preconv_converter.specs.declared.said.Said.{Said}
-use Rattle.preconv_converter.specs.declared.said.Said.TheVariants as says
+use Rattle.std.proofs.Common.{get_or, ◌≡◌, ℕ, List, [], ◌∷◌, ◌++◌, Bool, true, false, ◌==◌, ◌&&◌, ◌||◌, nat_lt, if◌then◌else◌, refl, sym, ◌∙◌, ap, subst}
+use Rattle.preconv_lines.specs.declared.half.Half.{Half}
+use Rattle.preconv_characters.specs.declared.marks.Mark.TheVariants.{Other}
+use Rattle.preconv_lines.specs.declared.half.Line.{Line}
+use Rattle.preconv_lines.specs.declared.half.Line.TheVariants as lines
+use Rattle.preconv_lines.specs.declared.half.Escape.{Escape}
+use Rattle.preconv_lines.specs.declared.half.Escape.TheVariants as escapes
+use Rattle.preconv_lines.specs.declared.half.Kind.TheVariants as kinds
+use Rattle.preconv_lines.specs.declared.half.Coming.TheVariants as comings
+use Rattle.preconv_characters.specs.declared.said.Said.{Said}
+use Rattle.preconv_characters.specs.declared.said.Said.TheVariants as says
 use Rattle.preconv_converter.specs.declared.reader.Reader.{Reader}
 use Rattle.preconv_converter.specs.declared.reader.Pending.TheVariants.{Nothing, One}
-use Rattle.preconv_converter.specs.Half.{Offered, taken, is_plain, without_escape, in_text}
-use Rattle.preconv_converter.specs.Hyphens.{placed}
-use Rattle.preconv_converter.specs.Words.{begins_word}
-use Rattle.preconv_converter.specs.Saying.{bytes_of, sent}
-use Rattle.preconv_converter.specs.Letters.{waits, made_way, letter}
-use Rattle.preconv_converter.specs.Escapes.{in_escape}
-use Rattle.preconv_converter.specs.Lines.{in_line, takes_escape, passing}
-use Rattle.preconv_converter.specs.Offering.{offer, plain_byte, beginning, is_raw}
-use Rattle.preconv_converter.specs.Reading.{Emitted, emitted, preceded, then_emitted, heard, heard_in, heard_byte, with_half, pending_with, read, fed, is_lead, stray}
+use Rattle.preconv_lines.specs.Half.{Offered, taken, is_plain, without_escape, in_text}
+use Rattle.preconv_lines.specs.Hyphens.{placed}
+use Rattle.preconv_characters.specs.Words.{begins_word}
+use Rattle.preconv_characters.specs.Saying.{bytes_of, sent}
+use Rattle.preconv_lines.specs.Letters.{waits, made_way, letter}
+use Rattle.preconv_lines.specs.Escapes.{in_escape}
+use Rattle.preconv_lines.specs.Lines.{in_line, takes_escape, passing}
+use Rattle.preconv_lines.specs.Offering.{offer, plain_byte, beginning, is_raw}
+use Rattle.preconv_converter.specs.Reading.{Emitted, emitted, preceded, then_emitted, heard, heard_in}
+use Rattle.preconv_converter.specs.Reading.{heard_byte, with_half, pending_with, read, fed, is_lead, stray}
 use Rattle.preconv_converter.specs.Passing.{Passes}
-use Rattle.preconv_converter.specs.Runs.{takes_plain_at, takes_plain_escape, is_kept, begins_kept, begins_font, is_font, after_font, after_kept}
+use Rattle.preconv_converter.specs.Runs.{takes_plain_at, takes_plain_escape, is_kept, begins_kept}
+use Rattle.preconv_converter.specs.Runs.{begins_font, is_font, after_font, after_kept}
 use Rattle.preconv_converter.proofs.Plain.{and-first, and-second, is_not, nothing_pending}
+use Rattle.preconv_characters.proofs.Tests.{is_one}
 use Rattle.preconv_converter.proofs.AtOnce.{placed_as}
 
 -- ---- an ASCII character that is taken at once
@@ -125,9 +127,6 @@ letter_read r none at =
     offers (code "f") (with_half (begun r.half) r) says.Nothing (named r.half) none (cooked_at r.half.line at) refl (letter_offered r.half at)
 
 -- these four are its letters
-pub is_one : (c x : ℕ) → (c == x) ≡ true → c ≡ x
-is_one c x p = grind (arith, nat_tests)
-
 pub by_letter : (P : ℕ → Type 0) → P (code "B") → P (code "I") → P (code "P") → P (code "R") → (c : ℕ) (w x y z : Bool) → (c == code "B") ≡ w → (c == code "I") ≡ x → (c == code "P") ≡ y → (c == code "R") ≡ z
     → (w || x || y || z) ≡ true → P c
 by_letter P p q s t c true x y z e f g h is = subst P (sym (is_one c (code "B") e)) p

@@ -3,16 +3,19 @@ use Prim.Native.Char.{code}
 use Rattle.std.proofs.Common.{◌≡◌, ℕ, zero, suc, List, [], ◌∷◌, ◌++◌, Bool, true, false, nat_lt, ◌||◌, if◌then◌else◌, refl, sym, subst, ap}
 use Rattle.std.specs.List.{AllPass}
 use Rattle.std.proofs.lemmas.List.Elements.{All-nil, All-cons, All-append}
-use Rattle.preconv_converter.specs.declared.target.Target.{Target}
-use Rattle.preconv_converter.specs.declared.half.Coming.{Coming}
-use Rattle.preconv_converter.specs.declared.half.Coming.TheVariants.{Byte, Wide}
+use Rattle.preconv_characters.specs.declared.target.Target.{Target}
+use Rattle.preconv_lines.specs.declared.half.Coming.{Coming}
+use Rattle.preconv_lines.specs.declared.half.Coming.TheVariants.{Byte, Wide}
 use Rattle.preconv_converter.specs.declared.reader.Reader.{Reader}
 use Rattle.preconv_converter.specs.declared.reader.Pending.{Pending}
 use Rattle.preconv_converter.specs.declared.reader.Pending.TheVariants.{Nothing, One, Two, Three}
-use Rattle.preconv_converter.specs.Saying.{has_byte, may_go_out, sent, all_sent, bytes_of, text_of}
-use Rattle.preconv_converter.specs.Offering.{offer, is_raw}
-use Rattle.preconv_converter.specs.Lines.{passing}
-use Rattle.preconv_converter.specs.Reading.{Emitted, is_lead, is_tail, is_second, emitted, preceded, then_emitted, with_half, pending_with, heard_in, heard, stray, strays, pending_heard, fresh, apart, whole, heard_after, read, name_left, ended, finished, fed, first_reader, converted}
+use Rattle.preconv_characters.specs.Saying.{has_byte, may_go_out, sent, all_sent, bytes_of, text_of}
+use Rattle.preconv_lines.specs.Offering.{offer, is_raw}
+use Rattle.preconv_lines.specs.Lines.{passing}
+use Rattle.preconv_converter.specs.Reading.{Emitted, is_lead, is_tail, is_second, emitted, preceded}
+use Rattle.preconv_converter.specs.Reading.{then_emitted, with_half, pending_with, heard_in, heard, stray}
+use Rattle.preconv_converter.specs.Reading.{strays, pending_heard, fresh, apart, whole, heard_after, read}
+use Rattle.preconv_converter.specs.Reading.{name_left, ended, finished, fed, first_reader, converted}
 
 GoesOut : Target → ℕ → Type 0
 GoesOut e b = may_go_out e b ≡ true
@@ -23,9 +26,6 @@ sent_by e b false p = refl
 
 sent-goes : (e : Target) (b : ℕ) → may_go_out e (sent e b) ≡ true
 sent-goes e b = sent_by e b (may_go_out e b) refl
-
-pub sent_is : (e : Target) (b : ℕ) → may_go_out e b ≡ true → sent e b ≡ b
-sent_is e b p = ap (λ (x : Bool). if x then b else code "?") p
 
 pub ascii-goes : (e : Target) (b : ℕ) → nat_lt b 127 ≡ true → may_go_out e b ≡ true
 ascii-goes e b p = ap (λ (x : Bool). x || has_byte e b) p

@@ -5,32 +5,41 @@ use Rattle.std.specs.Prelude.{codes}
 use Rattle.std.specs.Char.{encode_utf8}
 use Rattle.std.specs.Str.{all_scalars}
 use Rattle.std.proofs.lemmas.Bool.Decides.{nat_tests}
-use Rattle.preconv_converter.specs.declared.target.Target.{Target}
-use Rattle.preconv_converter.specs.declared.said.Said.{Said}
-use Rattle.preconv_converter.specs.declared.said.Said.TheVariants as says
-use Rattle.preconv_converter.specs.declared.half.Half.{Half}
-use Rattle.preconv_converter.specs.declared.half.Line.{Line}
-use Rattle.preconv_converter.specs.declared.half.Line.TheVariants as lines
-use Rattle.preconv_converter.specs.declared.half.Mark.TheVariants as marks
-use Rattle.preconv_converter.specs.declared.half.Coming.TheVariants as comings
-use Rattle.preconv_converter.specs.Half.{Offered, taken, left, in_text as text_of, without_escape, is_space}
-use Rattle.preconv_converter.specs.Hyphens.{placed, wide_mark}
-use Rattle.preconv_converter.specs.Endings.{keeping, spelling}
-use Rattle.preconv_converter.specs.Faces.{faced}
-use Rattle.preconv_converter.specs.Saying.{bytes_of}
-use Rattle.preconv_converter.specs.Lines.{is_control}
-use Rattle.preconv_converter.specs.Offering.{offer}
+use Rattle.preconv_characters.specs.declared.target.Target.{Target}
+use Rattle.preconv_characters.specs.declared.said.Said.{Said}
+use Rattle.preconv_characters.specs.declared.said.Said.TheVariants as says
+use Rattle.preconv_lines.specs.declared.half.Half.{Half}
+use Rattle.preconv_lines.specs.declared.half.Line.{Line}
+use Rattle.preconv_lines.specs.declared.half.Line.TheVariants as lines
+use Rattle.preconv_characters.specs.declared.marks.Mark.TheVariants as marks
+use Rattle.preconv_lines.specs.declared.half.Coming.TheVariants as comings
+use Rattle.preconv_lines.specs.Half.{Offered, taken, left, in_text as text_of, without_escape, is_space}
+use Rattle.preconv_characters.specs.Marks.{wide_mark}
+use Rattle.preconv_lines.specs.Hyphens.{placed}
+use Rattle.preconv_lines.specs.Endings.{keeping, spelling}
+use Rattle.preconv_lines.specs.Faces.{faced}
+use Rattle.preconv_characters.specs.Saying.{bytes_of}
+use Rattle.preconv_lines.specs.Lines.{is_control}
+use Rattle.preconv_lines.specs.Offering.{offer}
 use Rattle.preconv_converter.specs.Runs.{is_kept, is_font}
 use Rattle.preconv_converter.specs.Reading.{emitted, preceded, with_half, heard, heard_in}
-use Rattle.preconv_converter.specs.Pieces.{Face, face_of, Piece, Same, Looks, SentenceEnd, all_were, all_become}
-use Rattle.preconv_converter.specs.WrittenLines.{is_face, Sign, Byte, Escape, Font, Character, Glyph, is_sign, all_are, begins_text, written_sign, written_signs}
+use Rattle.preconv_converter.specs.Pieces.{Face, face_of, Piece, Same, Looks, SentenceEnd, all_were}
+use Rattle.preconv_converter.specs.Pieces.{all_become}
+use Rattle.preconv_converter.specs.WrittenLines.{is_face, Sign, Byte, Escape, Font, Character, Glyph, is_sign}
+use Rattle.preconv_converter.specs.WrittenLines.{all_are, begins_text, written_sign, written_signs}
 use Rattle.preconv_converter.proofs.AtOnce.{placed_as}
 use Rattle.preconv_converter.proofs.Characters.{cooked_character}
 use Rattle.preconv_converter.proofs.Plain.{and-first, and-second, is_not}
 use Rattle.preconv_converter.proofs.PlainEscapes.{by_kept, by_letter}
 use Rattle.preconv_converter.proofs.GlyphsGo.{IsGlyph, glyph_is, glyph_reads}
-use Rattle.preconv_converter.proofs.Spots.{Pairs, pair_half, open_half, begun_half, font_half, Flow, Text, Faces, Among, line_in, Where, First, In, line_of_where, Spot, Begins, Fonts, Starts, Flows, Holds, Closes, half_of, held, begins, in_text, at, no_raw, Takes, Hears, hears_taken, Reads, reads_byte, reads_both, reads_none, all_become-append, all_were-append}
-use Rattle.preconv_converter.proofs.TextGoes.{same_byte, IsText, text_is, moved_by, text_hears, newline_hears, faces_hears, faces_newline, held_hears, start_hears, line_hears, no_both}
+use Rattle.preconv_converter.proofs.Spots.{Pairs, pair_half, open_half, begun_half, font_half, Flow, Text}
+use Rattle.preconv_converter.proofs.Spots.{Faces, Among, line_in, Where, First, In, line_of_where, Spot}
+use Rattle.preconv_converter.proofs.Spots.{Begins, Fonts, Starts, Flows, Holds, Closes, half_of, held, begins}
+use Rattle.preconv_converter.proofs.Spots.{in_text, at, no_raw, Takes, Hears, hears_taken, Reads, reads_byte}
+use Rattle.preconv_converter.proofs.Spots.{reads_both, reads_none, all_become-append, all_were-append}
+use Rattle.preconv_converter.proofs.TextGoes.{same_byte, IsText, text_is, moved_by, text_hears, newline_hears}
+use Rattle.preconv_converter.proofs.TextGoes.{faces_hears, faces_newline, held_hears, start_hears, line_hears}
+use Rattle.preconv_converter.proofs.TextGoes.{no_both}
 
 -- ---- a text line
 

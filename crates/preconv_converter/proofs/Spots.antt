@@ -1,26 +1,27 @@
 -- Where a page stands between the bytes of a line, whatever came before; and what a byte does there.
 use Prim.Native.Char.{code}
 use Rattle.std.proofs.Common.{◌≡◌, ℕ, suc, ◌+◌, List, [], ◌∷◌, ◌++◌, Bool, true, false, nat_lt, if◌then◌else◌, refl, sym, ◌∙◌, ap, append-nil, append_assoc}
-use Rattle.preconv_converter.specs.declared.target.Target.{Target}
-use Rattle.preconv_converter.specs.declared.said.Said.{Said}
-use Rattle.preconv_converter.specs.declared.said.Said.TheVariants as says
-use Rattle.preconv_converter.specs.declared.half.Half.{Half}
-use Rattle.preconv_converter.specs.declared.half.Line.{Line}
-use Rattle.preconv_converter.specs.declared.half.Line.TheVariants as lines
-use Rattle.preconv_converter.specs.declared.words.Words.{Words}
-use Rattle.preconv_converter.specs.declared.words.Place.{Place}
-use Rattle.preconv_converter.specs.declared.words.Place.TheVariants.{Between}
-use Rattle.preconv_converter.specs.Words.{words_at}
-use Rattle.preconv_converter.specs.declared.half.Escape.TheVariants as escapes
-use Rattle.preconv_converter.specs.declared.half.Kind.TheVariants as kinds
-use Rattle.preconv_converter.specs.declared.half.Coming.TheVariants as comings
+use Rattle.preconv_characters.specs.declared.target.Target.{Target}
+use Rattle.preconv_characters.specs.declared.said.Said.{Said}
+use Rattle.preconv_characters.specs.declared.said.Said.TheVariants as says
+use Rattle.preconv_lines.specs.declared.half.Half.{Half}
+use Rattle.preconv_lines.specs.declared.half.Line.{Line}
+use Rattle.preconv_lines.specs.declared.half.Line.TheVariants as lines
+use Rattle.preconv_characters.specs.declared.words.Words.{Words}
+use Rattle.preconv_characters.specs.declared.words.Place.{Place}
+use Rattle.preconv_characters.specs.declared.words.Place.TheVariants.{Between}
+use Rattle.preconv_characters.specs.Words.{words_at}
+use Rattle.preconv_lines.specs.declared.half.Escape.TheVariants as escapes
+use Rattle.preconv_lines.specs.declared.half.Kind.TheVariants as kinds
+use Rattle.preconv_lines.specs.declared.half.Coming.TheVariants as comings
 use Rattle.preconv_converter.specs.declared.reader.Reader.{Reader}
 use Rattle.preconv_converter.specs.declared.reader.Pending.TheVariants as pendings
-use Rattle.preconv_converter.specs.Half.{Offered, taken, left}
-use Rattle.preconv_converter.specs.Saying.{bytes_of, sent}
-use Rattle.preconv_converter.specs.Lines.{passing}
-use Rattle.preconv_converter.specs.Offering.{offer, is_raw}
-use Rattle.preconv_converter.specs.Reading.{Emitted, emitted, preceded, then_emitted, with_half, pending_with, heard_in, heard, is_lead, stray, read, fed}
+use Rattle.preconv_lines.specs.Half.{Offered, taken, left}
+use Rattle.preconv_characters.specs.Saying.{bytes_of, sent}
+use Rattle.preconv_lines.specs.Lines.{passing}
+use Rattle.preconv_lines.specs.Offering.{offer, is_raw}
+use Rattle.preconv_converter.specs.Reading.{Emitted, emitted, preceded, then_emitted, with_half, pending_with}
+use Rattle.preconv_converter.specs.Reading.{heard_in, heard, is_lead, stray, read, fed}
 use Rattle.preconv_converter.specs.Pieces.{Piece, was, becomes, all_were, all_become}
 use Rattle.preconv_converter.proofs.Reading.{preceded-none, fed-append}
 

@@ -1,14 +1,17 @@
 -- How many steps bytes take.
 use Rattle.std.proofs.Common.{◌≡◌, ℕ, zero, suc, ◌+◌, ◌*◌, ◌≤◌, List, [], ◌∷◌, length, Bool, true, false, nat_lt, if◌then◌else◌, refl, ◌∙◌, ap, arith}
-use Rattle.preconv_converter.specs.declared.target.Target.{Target}
-use Rattle.preconv_converter.specs.declared.half.Coming.{Coming}
-use Rattle.preconv_converter.specs.declared.half.Coming.TheVariants.{Byte, Wide}
+use Rattle.preconv_characters.specs.declared.target.Target.{Target}
+use Rattle.preconv_lines.specs.declared.half.Coming.{Coming}
+use Rattle.preconv_lines.specs.declared.half.Coming.TheVariants.{Byte, Wide}
 use Rattle.preconv_converter.specs.declared.reader.Reader.{Reader}
 use Rattle.preconv_converter.specs.declared.reader.Pending.{Pending}
 use Rattle.preconv_converter.specs.declared.reader.Pending.TheVariants.{Nothing, One, Two, Three}
-use Rattle.preconv_converter.specs.Saying.{bytes_of, sent}
-use Rattle.preconv_converter.specs.Offering.{offer, is_raw}
-use Rattle.preconv_converter.specs.Reading.{Emitted, is_lead, is_tail, is_second, emitted, preceded, then_emitted, with_half, pending_with, heard_in, heard, stray, strays, pending_heard, fresh, apart, whole, heard_after, read, fed, first_reader}
+use Rattle.preconv_characters.specs.Saying.{bytes_of, sent}
+use Rattle.preconv_lines.specs.Offering.{offer, is_raw}
+use Rattle.preconv_converter.specs.Reading.{Emitted, is_lead, is_tail, is_second, emitted, preceded}
+use Rattle.preconv_converter.specs.Reading.{then_emitted, with_half, pending_with, heard_in, heard, stray}
+use Rattle.preconv_converter.specs.Reading.{strays, pending_heard, fresh, apart, whole, heard_after, read}
+use Rattle.preconv_converter.specs.Reading.{fed, first_reader}
 use Rattle.preconv_converter.specs.Staged.{steps_said}
 
 -- ---- a character is heard in so many steps at most, and what is pending stays

@@ -3,29 +3,38 @@ use Prim.Native.Char.{code}
 use Rattle.std.proofs.Common.{◌≡◌, ℕ, suc, List, [], ◌∷◌, ◌++◌, Bool, true, false, not, ◌==◌, ◌&&◌, ◌||◌, nat_lt, if◌then◌else◌, refl, sym, ◌∙◌, ap, subst, arith}
 use Rattle.std.specs.Prelude.{codes}
 use Rattle.std.proofs.lemmas.Bool.Decides.{nat_tests}
-use Rattle.preconv_converter.specs.declared.target.Target.{Target}
-use Rattle.preconv_converter.specs.declared.said.Said.{Said}
-use Rattle.preconv_converter.specs.declared.said.Said.TheVariants as says
-use Rattle.preconv_converter.specs.declared.half.Half.{Half}
-use Rattle.preconv_converter.specs.declared.half.Line.{Line}
-use Rattle.preconv_converter.specs.declared.half.Line.TheVariants as lines
-use Rattle.preconv_converter.specs.declared.half.Before.{Before}
-use Rattle.preconv_converter.specs.declared.half.Before.TheVariants as befores
-use Rattle.preconv_converter.specs.declared.half.Mark.{Mark}
-use Rattle.preconv_converter.specs.declared.half.Mark.TheVariants as marks
-use Rattle.preconv_converter.specs.declared.half.Tag.TheVariants as tags
-use Rattle.preconv_converter.specs.declared.half.Coming.TheVariants as comings
-use Rattle.preconv_converter.specs.Half.{Offered, taken, left, is_whole, without_escape, abandoned, is_read, is_format}
-use Rattle.preconv_converter.specs.Hyphens.{is_ascii_letter, mark_of, placed, saying, in_text as text_offered, hyphen, hyphen_by, hyphen_at, separated_by, turns_hyphens, closes, newline_held, line_after, is_flowing}
-use Rattle.preconv_converter.specs.Saying.{bytes_of}
-use Rattle.preconv_converter.specs.Lines.{is_control, control as control_offered, follows_tag, begins_apart, breaking, at_start, after_fonts}
-use Rattle.preconv_converter.specs.Offering.{offer, beginning}
-use Rattle.preconv_converter.specs.Pieces.{Piece, Same, Hyphen, SentenceEnd, EmptyBelow, BlankBelow, Printed, all_were, all_become}
+use Rattle.preconv_characters.specs.declared.target.Target.{Target}
+use Rattle.preconv_characters.specs.declared.said.Said.{Said}
+use Rattle.preconv_characters.specs.declared.said.Said.TheVariants as says
+use Rattle.preconv_lines.specs.declared.half.Half.{Half}
+use Rattle.preconv_lines.specs.declared.half.Line.{Line}
+use Rattle.preconv_lines.specs.declared.half.Line.TheVariants as lines
+use Rattle.preconv_characters.specs.declared.marks.Before.{Before}
+use Rattle.preconv_characters.specs.declared.marks.Before.TheVariants as befores
+use Rattle.preconv_characters.specs.declared.marks.Mark.{Mark}
+use Rattle.preconv_characters.specs.declared.marks.Mark.TheVariants as marks
+use Rattle.preconv_lines.specs.declared.half.Tag.TheVariants as tags
+use Rattle.preconv_lines.specs.declared.half.Coming.TheVariants as comings
+use Rattle.preconv_lines.specs.Half.{Offered, taken, left, is_whole, without_escape, abandoned, is_read}
+use Rattle.preconv_lines.specs.Half.{is_format}
+use Rattle.preconv_characters.specs.Marks.{is_ascii_letter, mark_of}
+use Rattle.preconv_lines.specs.Hyphens.{placed, saying, in_text as text_offered, hyphen, hyphen_by, hyphen_at}
+use Rattle.preconv_lines.specs.Hyphens.{separated_by, turns_hyphens, closes, newline_held, line_after}
+use Rattle.preconv_lines.specs.Hyphens.{is_flowing}
+use Rattle.preconv_characters.specs.Saying.{bytes_of}
+use Rattle.preconv_lines.specs.Lines.{is_control, control as control_offered, follows_tag, begins_apart}
+use Rattle.preconv_lines.specs.Lines.{breaking, at_start, after_fonts}
+use Rattle.preconv_lines.specs.Offering.{offer, beginning}
+use Rattle.preconv_converter.specs.Pieces.{Piece, Same, Hyphen, SentenceEnd, EmptyBelow, BlankBelow, Printed}
+use Rattle.preconv_converter.specs.Pieces.{all_were, all_become}
 use Rattle.preconv_converter.specs.WrittenLines.{is_text}
 use Rattle.preconv_converter.proofs.AtOnce.{placed_as}
 use Rattle.preconv_converter.proofs.Plain.{and-first, and-second, is_not}
-use Rattle.preconv_converter.proofs.Sent.{sent_is, ascii-goes}
-use Rattle.preconv_converter.proofs.Spots.{open_half, held_half, closed_half, Flow, Text, Faces, Among, line_in, Spot, Starts, Flows, Holds, Closes, half_of, held, begins, in_text, Takes, Hears, hears_taken, hears_left, hears_twice}
+use Rattle.preconv_characters.proofs.SentWhole.{sent_is}
+use Rattle.preconv_converter.proofs.Sent.{ascii-goes}
+use Rattle.preconv_converter.proofs.Spots.{open_half, held_half, closed_half, Flow, Text, Faces, Among}
+use Rattle.preconv_converter.proofs.Spots.{line_in, Spot, Starts, Flows, Holds, Closes, half_of, held, begins}
+use Rattle.preconv_converter.proofs.Spots.{in_text, Takes, Hears, hears_taken, hears_left, hears_twice}
 
 -- ---- bytes of a text
 

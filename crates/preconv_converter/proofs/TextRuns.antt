@@ -3,7 +3,7 @@ use Rattle.std.proofs.Common.{◌≡◌, ℕ, zero, suc, ◌+◌, ◌<◌, ◌�
 use Rattle.std.specs.List.{prefix_len}
 use Rattle.std.proofs.lemmas.List.{drop_more, get_or-drop}
 use Rattle.document_stages.proofs.Steps.{drop_drop}
-use Rattle.preconv_converter.specs.Hyphens.{is_stop}
+use Rattle.preconv_characters.specs.Marks.{is_stop}
 use Rattle.preconv_converter.specs.Runs.{goes_on_text, goes_on_after, may_close, run_after}
 
 within_by : (x : Bool) (n m : ℕ) → n ≤ m → (if x then suc n else 0) ≤ suc m

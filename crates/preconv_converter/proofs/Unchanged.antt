@@ -2,22 +2,25 @@
 use Prim.Native.Char.{code}
 use Rattle.std.proofs.Common.{◌≡◌, ℕ, suc, ◌+◌, ◌≤◌, List, [], ◌∷◌, ◌++◌, length, drop, Bool, true, false, not, ◌==◌, ◌&&◌, ◌||◌, nat_lt, if◌then◌else◌, refl, sym, ◌∙◌, ap, append-nil, arith}
 use Rattle.std.proofs.lemmas.List.{drop_all}
-use Rattle.preconv_converter.specs.declared.target.Target.{Target}
-use Rattle.preconv_converter.specs.declared.half.Half.{Half}
-use Rattle.preconv_converter.specs.declared.half.Line.{Line}
-use Rattle.preconv_converter.specs.declared.half.Line.TheVariants as lines
-use Rattle.preconv_converter.specs.declared.half.Before.TheVariants.{Character}
-use Rattle.preconv_converter.specs.declared.half.Mark.TheVariants.{Other}
-use Rattle.preconv_converter.specs.declared.half.Coming.TheVariants as comings
-use Rattle.preconv_converter.specs.declared.said.Said.TheVariants as says
+use Rattle.preconv_characters.specs.declared.target.Target.{Target}
+use Rattle.preconv_lines.specs.declared.half.Half.{Half}
+use Rattle.preconv_lines.specs.declared.half.Line.{Line}
+use Rattle.preconv_lines.specs.declared.half.Line.TheVariants as lines
+use Rattle.preconv_characters.specs.declared.marks.Before.TheVariants.{Character}
+use Rattle.preconv_characters.specs.declared.marks.Mark.TheVariants.{Other}
+use Rattle.preconv_lines.specs.declared.half.Coming.TheVariants as comings
+use Rattle.preconv_characters.specs.declared.said.Said.TheVariants as says
 use Rattle.preconv_converter.specs.declared.reader.Reader.{Reader}
 use Rattle.preconv_converter.specs.declared.reader.Pending.TheVariants as pendings
-use Rattle.preconv_converter.specs.Half.{Offered, taken, first_half}
-use Rattle.preconv_converter.specs.Hyphens.{mark_of, placed, carriage_return, moved, saying, in_text}
-use Rattle.preconv_converter.specs.Lines.{in_line, is_control, control}
-use Rattle.preconv_converter.specs.Offering.{offer, beginning, may_pass}
+use Rattle.preconv_lines.specs.Half.{Offered, taken, first_half}
+use Rattle.preconv_characters.specs.Marks.{mark_of}
+use Rattle.preconv_lines.specs.Hyphens.{placed, carriage_return, moved, saying, in_text}
+use Rattle.preconv_lines.specs.Lines.{in_line, is_control, control}
+use Rattle.preconv_lines.specs.Offering.{offer, beginning, may_pass}
 use Rattle.preconv_converter.specs.PlainText.{goes_on, is_plain_from, is_plain_text}
-use Rattle.preconv_converter.specs.Reading.{Emitted, emitted, preceded, then_emitted, heard, read, fed, fresh, stray, is_lead, pending_with, pending_heard, finished, first_reader, converted, steps_of}
+use Rattle.preconv_converter.specs.Reading.{Emitted, emitted, preceded, then_emitted, heard, read, fed, fresh}
+use Rattle.preconv_converter.specs.Reading.{stray, is_lead, pending_with, pending_heard, finished}
+use Rattle.preconv_converter.specs.Reading.{first_reader, converted, steps_of}
 use Rattle.preconv_converter.proofs.Reading.{emitted-eq}
 use Rattle.preconv_converter.proofs.Plain.{and-first, and-second, is_not, heard_byte_taken}
 

@@ -1,16 +1,17 @@
 -- What a comment and an ignored line have changes nothing of the rest.
 use Prim.Native.Char.{code}
 use Rattle.std.proofs.Common.{◌≡◌, ℕ, List, [], ◌∷◌, ◌++◌, Bool, true, false, not, ◌==◌, ◌&&◌, if◌then◌else◌, refl, sym, ◌∙◌, ap}
-use Rattle.preconv_converter.specs.declared.half.Dots.{Dots}
-use Rattle.preconv_converter.specs.declared.half.Dots.TheVariants as dots
-use Rattle.preconv_converter.specs.declared.half.Line.{Line}
-use Rattle.preconv_converter.specs.declared.half.Line.TheVariants as lines
+use Rattle.preconv_lines.specs.declared.half.Dots.{Dots}
+use Rattle.preconv_lines.specs.declared.half.Dots.TheVariants as dots
+use Rattle.preconv_lines.specs.declared.half.Line.{Line}
+use Rattle.preconv_lines.specs.declared.half.Line.TheVariants as lines
 use Rattle.preconv_converter.specs.declared.reader.Reader.{Reader}
-use Rattle.preconv_converter.specs.Saying.{sent}
-use Rattle.preconv_converter.specs.Lines.{after_ignored, one_dot_more, no_dot, line_passed, passing}
-use Rattle.preconv_converter.specs.Offering.{is_raw}
+use Rattle.preconv_characters.specs.Saying.{sent}
+use Rattle.preconv_lines.specs.Lines.{after_ignored, one_dot_more, no_dot, line_passed, passing}
+use Rattle.preconv_lines.specs.Offering.{is_raw}
 use Rattle.preconv_converter.specs.Reading.{emitted, with_half, heard_byte, read, fed}
-use Rattle.preconv_converter.specs.Unread.{is_in_line, begins_with_dots, CommentsAreUnread, IgnoredLinesAreUnread}
+use Rattle.preconv_converter.specs.Unread.{is_in_line, begins_with_dots, CommentsAreUnread}
+use Rattle.preconv_converter.specs.Unread.{IgnoredLinesAreUnread}
 use Rattle.preconv_converter.proofs.Plain.{and-first, and-second, is_not}
 
 -- the same, where its line stands so

@@ -2,12 +2,13 @@
 use Rattle.std.proofs.Common.{◌≡◌, ℕ, ◌+◌, ◌<◌, ◌≤◌, List, [], ◌∷◌, ◌++◌, length, take, get_or, Bool, true, false, nat_lt, ◌&&◌, if◌then◌else◌, refl, sym, ◌∙◌, ap, arith}
 use Rattle.std.proofs.lemmas.Bool.{lt-ltb, le-ltb}
 use Rattle.std.proofs.lemmas.Bool.Decides.{nat_tests}
-use Rattle.preconv_converter.specs.declared.half.Coming.TheVariants.{Wide}
+use Rattle.preconv_lines.specs.declared.half.Coming.TheVariants.{Wide}
 use Rattle.preconv_converter.specs.declared.reader.Pending.TheVariants.{Nothing, One, Two, Three}
 use Rattle.preconv_converter.specs.declared.reader.Reader.{Reader}
-use Rattle.preconv_converter.specs.Offering.{is_raw}
-use Rattle.preconv_converter.specs.Numbers.{is_within}
-use Rattle.preconv_converter.specs.Reading.{Takes, Emitted, apart, fed, heard, is_second, is_tail, is_three, is_two, pending_with, three_code, emitted, two_code, whole}
+use Rattle.preconv_lines.specs.Offering.{is_raw}
+use Rattle.preconv_characters.specs.Numbers.{is_within}
+use Rattle.preconv_converter.specs.Reading.{Takes, Emitted, apart, fed, heard, is_second, is_tail, is_three}
+use Rattle.preconv_converter.specs.Reading.{is_two, pending_with, three_code, emitted, two_code, whole}
 use Rattle.preconv_converter.proofs.Characters.{cooked_read, last, lead, silent}
 use Rattle.preconv_converter.proofs.Plain.{and-first, and-second, none_heard}
 

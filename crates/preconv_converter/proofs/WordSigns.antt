@@ -2,38 +2,49 @@
 use Prim.Native.Char.{code}
 use Rattle.std.proofs.Common.{◌≡◌, ℕ, suc, List, [], ◌∷◌, ◌++◌, Bool, true, false, not, ◌==◌, ◌&&◌, if◌then◌else◌, refl, sym, ◌∙◌, ap, append-nil}
 use Rattle.std.specs.Char.{encode_utf8}
-use Rattle.preconv_converter.specs.declared.target.Target.{Target}
-use Rattle.preconv_converter.specs.declared.said.Said.TheVariants as says
-use Rattle.preconv_converter.specs.declared.half.Half.{Half}
-use Rattle.preconv_converter.specs.declared.half.Line.TheVariants as lines
-use Rattle.preconv_converter.specs.declared.half.Mark.TheVariants as marks
-use Rattle.preconv_converter.specs.declared.half.Coming.TheVariants as comings
-use Rattle.preconv_converter.specs.declared.words.Words.{Words}
-use Rattle.preconv_converter.specs.declared.words.Emitted.{Emitted as WordsEmitted}
-use Rattle.preconv_converter.specs.declared.words.Place.{Place}
-use Rattle.preconv_converter.specs.declared.words.Place.TheVariants as places
-use Rattle.preconv_converter.specs.declared.words.Class.TheVariants.{Space, Quote as QuoteClass, Other}
-use Rattle.preconv_converter.specs.Half.{Offered, taken, in_text as text_of, without_escape, is_space}
-use Rattle.preconv_converter.specs.Hyphens.{placed, wide_mark}
-use Rattle.preconv_converter.specs.Endings.{keeping, spelling}
-use Rattle.preconv_converter.specs.Faces.{faced}
-use Rattle.preconv_converter.specs.Letters.{word_made}
-use Rattle.preconv_converter.specs.Words.{begins_word, is_ninth, class_of, words_at, offered_at, offered_words}
-use Rattle.preconv_converter.specs.Saying.{bytes_of}
-use Rattle.preconv_converter.specs.Lines.{as_offered}
-use Rattle.preconv_converter.specs.Offering.{offer}
+use Rattle.preconv_characters.specs.declared.target.Target.{Target}
+use Rattle.preconv_characters.specs.declared.said.Said.TheVariants as says
+use Rattle.preconv_lines.specs.declared.half.Half.{Half}
+use Rattle.preconv_lines.specs.declared.half.Line.TheVariants as lines
+use Rattle.preconv_characters.specs.declared.marks.Mark.TheVariants as marks
+use Rattle.preconv_lines.specs.declared.half.Coming.TheVariants as comings
+use Rattle.preconv_characters.specs.declared.words.Words.{Words}
+use Rattle.preconv_characters.specs.declared.words.Emitted.{Emitted as WordsEmitted}
+use Rattle.preconv_characters.specs.declared.words.Place.{Place}
+use Rattle.preconv_characters.specs.declared.words.Place.TheVariants as places
+use Rattle.preconv_characters.specs.declared.words.Class.TheVariants.{Space, Quote as QuoteClass, Other}
+use Rattle.preconv_lines.specs.Half.{Offered, taken, in_text as text_of, without_escape, is_space}
+use Rattle.preconv_characters.specs.Marks.{wide_mark}
+use Rattle.preconv_lines.specs.Hyphens.{placed}
+use Rattle.preconv_lines.specs.Endings.{keeping, spelling}
+use Rattle.preconv_lines.specs.Faces.{faced}
+use Rattle.preconv_lines.specs.Letters.{word_made}
+use Rattle.preconv_characters.specs.Words.{begins_word, is_ninth, class_of, words_at, offered_at}
+use Rattle.preconv_characters.specs.Words.{offered_words}
+use Rattle.preconv_characters.specs.Saying.{bytes_of}
+use Rattle.preconv_lines.specs.Lines.{as_offered}
+use Rattle.preconv_lines.specs.Offering.{offer}
 use Rattle.preconv_converter.specs.Runs.{is_kept}
 use Rattle.preconv_converter.specs.Reading.{emitted, preceded, with_half, heard_in}
 use Rattle.preconv_converter.specs.Pieces.{Face, face_of, Same, Looks, all_were}
-use Rattle.preconv_converter.specs.WrittenLines.{is_face, is_text, Sign, Byte, Escape, Font, Character, Glyph, is_sign, all_are, written_sign, written_signs, Word, Bare, Quoted, is_quotable, is_bare, is_word, are_words, written_word, written_words}
+use Rattle.preconv_converter.specs.WrittenLines.{is_face, is_text, Sign, Byte, Escape, Font, Character, Glyph}
+use Rattle.preconv_converter.specs.WrittenLines.{is_sign, all_are, written_sign, written_signs, Word, Bare}
+use Rattle.preconv_converter.specs.WrittenLines.{Quoted, is_quotable, is_bare, is_word, are_words}
+use Rattle.preconv_converter.specs.WrittenLines.{written_word, written_words}
 use Rattle.preconv_converter.proofs.AtOnce.{placed_as}
 use Rattle.preconv_converter.proofs.Plain.{and-first, and-second, is_not}
 use Rattle.preconv_converter.proofs.PlainEscapes.{by_kept}
 use Rattle.preconv_converter.proofs.GlyphsGo.{IsGlyph, glyph_is, glyph_reads}
-use Rattle.preconv_converter.proofs.Spots.{Pairs, pair_half, open_half, begun_half, font_half, Among, In, Spot, Begins, Fonts, Flows, Holds, Turns, TurnBegins, half_of, held, begins, at, Hears, hears_taken, hears_left, Reads, reads_byte, reads_both, reads_none}
+use Rattle.preconv_converter.proofs.Spots.{Pairs, pair_half, open_half, begun_half, font_half, Among, In}
+use Rattle.preconv_converter.proofs.Spots.{Spot, Begins, Fonts, Flows, Holds, Turns, TurnBegins, half_of}
+use Rattle.preconv_converter.proofs.Spots.{held, begins, at, Hears, hears_taken, hears_left, Reads}
+use Rattle.preconv_converter.proofs.Spots.{reads_byte, reads_both, reads_none}
 use Rattle.preconv_converter.proofs.TextGoes.{IsText, text_is, moved_by, held_hears}
-use Rattle.preconv_converter.proofs.SignsGo.{by_face, kept_out, kept_ascii, font_out, font_ascii, HearsWide, wide_left, wide_reads}
-use Rattle.preconv_converter.proofs.WordsGo.{as_is, inside, in_quotes, word_ends, turned_ninth, between, is_quote, Begun, flow_begun, held_begun, bare_hears, first_quote, quoted_byte, last_quote, inside_byte, word_newline, word_blank}
+use Rattle.preconv_converter.proofs.SignsGo.{by_face, kept_out, kept_ascii, font_out, font_ascii, HearsWide}
+use Rattle.preconv_converter.proofs.SignsGo.{wide_left, wide_reads}
+use Rattle.preconv_converter.proofs.WordsGo.{as_is, inside, in_quotes, word_ends, turned_ninth, between}
+use Rattle.preconv_converter.proofs.WordsGo.{is_quote, Begun, flow_begun, held_begun, bare_hears, first_quote}
+use Rattle.preconv_converter.proofs.WordsGo.{quoted_byte, last_quote, inside_byte, word_newline, word_blank}
 
 -- ---- a backslash
 

@@ -2,32 +2,37 @@
 use Prim.Native.Char.{code}
 use Rattle.std.proofs.Common.{◌≡◌, ℕ, ◌+◌, [], ◌∷◌, Bool, true, false, not, ◌==◌, ◌&&◌, nat_lt, nat_le, if◌then◌else◌, refl, sym, ◌∙◌, ap, arith}
 use Rattle.std.proofs.lemmas.Bool.Decides.{nat_tests}
-use Rattle.preconv_converter.specs.declared.said.Said.TheVariants as says
-use Rattle.preconv_converter.specs.declared.words.Words.{Words}
-use Rattle.preconv_converter.specs.declared.words.Emitted.{Emitted as WordsEmitted}
-use Rattle.preconv_converter.specs.declared.words.Place.{Place}
-use Rattle.preconv_converter.specs.declared.words.Place.TheVariants.{Between, Begun}
-use Rattle.preconv_converter.specs.declared.words.Class.{Class}
-use Rattle.preconv_converter.specs.declared.words.Class.TheVariants.{Space, Quote, Other}
-use Rattle.preconv_converter.specs.declared.half.Half.{Half}
-use Rattle.preconv_converter.specs.declared.half.Line.{Line}
-use Rattle.preconv_converter.specs.declared.half.Line.TheVariants as lines
-use Rattle.preconv_converter.specs.declared.half.Mark.{Mark}
-use Rattle.preconv_converter.specs.declared.half.Coming.TheVariants as comings
+use Rattle.preconv_characters.specs.declared.said.Said.TheVariants as says
+use Rattle.preconv_characters.specs.declared.words.Words.{Words}
+use Rattle.preconv_characters.specs.declared.words.Emitted.{Emitted as WordsEmitted}
+use Rattle.preconv_characters.specs.declared.words.Place.{Place}
+use Rattle.preconv_characters.specs.declared.words.Place.TheVariants.{Between, Begun}
+use Rattle.preconv_characters.specs.declared.words.Class.{Class}
+use Rattle.preconv_characters.specs.declared.words.Class.TheVariants.{Space, Quote, Other}
+use Rattle.preconv_lines.specs.declared.half.Half.{Half}
+use Rattle.preconv_lines.specs.declared.half.Line.{Line}
+use Rattle.preconv_lines.specs.declared.half.Line.TheVariants as lines
+use Rattle.preconv_characters.specs.declared.marks.Mark.{Mark}
+use Rattle.preconv_lines.specs.declared.half.Coming.TheVariants as comings
 use Rattle.preconv_converter.specs.declared.reader.Reader.{Reader}
 use Rattle.preconv_converter.specs.declared.reader.Pending.TheVariants.{Nothing, One}
-use Rattle.preconv_converter.specs.Half.{Offered, taken, left, is_plain, is_open}
-use Rattle.preconv_converter.specs.Hyphens.{mark_of, placed, gone_by, saying, hyphen, turns_hyphens, is_closer, line_after}
-use Rattle.preconv_converter.specs.Words.{begins_word, is_ninth, class_of, offered_at, begun, font_said, inside}
-use Rattle.preconv_converter.specs.Saying.{bytes_of, sent}
-use Rattle.preconv_converter.specs.Escapes.{in_escape}
-use Rattle.preconv_converter.specs.Lines.{as_offered, among_words, word_moved, in_words, passing}
-use Rattle.preconv_converter.specs.Offering.{offer, plain_byte, beginning, is_raw}
-use Rattle.preconv_converter.specs.Reading.{emitted, preceded, heard, heard_in, heard_byte, with_half, pending_with, read, is_lead, stray}
+use Rattle.preconv_lines.specs.Half.{Offered, taken, left, is_plain, is_open}
+use Rattle.preconv_characters.specs.Marks.{mark_of, is_closer}
+use Rattle.preconv_lines.specs.Hyphens.{placed, gone_by, saying, hyphen, turns_hyphens, line_after}
+use Rattle.preconv_characters.specs.Words.{begins_word, is_ninth, class_of, offered_at, begun, font_said}
+use Rattle.preconv_characters.specs.Words.{inside}
+use Rattle.preconv_characters.specs.Saying.{bytes_of, sent}
+use Rattle.preconv_lines.specs.Escapes.{in_escape}
+use Rattle.preconv_lines.specs.Lines.{as_offered, among_words, word_moved, in_words, passing}
+use Rattle.preconv_lines.specs.Offering.{offer, plain_byte, beginning, is_raw}
+use Rattle.preconv_converter.specs.Reading.{emitted, preceded, heard, heard_in, heard_byte, with_half}
+use Rattle.preconv_converter.specs.Reading.{pending_with, read, is_lead, stray}
 use Rattle.preconv_converter.specs.Runs.{goes_on_text, is_between, begins_word_with, after_word}
 use Rattle.preconv_converter.proofs.Plain.{and-first, and-second, is_not, stays, nothing_pending}
-use Rattle.preconv_converter.proofs.AtOnce.{placed_as, placed_open, placed_twice, is_ascii, no_return, no_closer, no_backslash, no_hyphen, no_newline}
-use Rattle.preconv_converter.proofs.Sent.{sent_is, ascii-goes}
+use Rattle.preconv_converter.proofs.AtOnce.{placed_as, placed_open, placed_twice, is_ascii, no_return}
+use Rattle.preconv_converter.proofs.AtOnce.{no_closer, no_backslash, no_hyphen, no_newline}
+use Rattle.preconv_characters.proofs.SentWhole.{sent_is}
+use Rattle.preconv_converter.proofs.Sent.{ascii-goes}
 
 -- ---- a byte among words
 

@@ -1,32 +1,35 @@
 -- The words of a font macro's line go out piece by piece.
 use Prim.Native.Char.{code}
 use Rattle.std.proofs.Common.{◌≡◌, ℕ, suc, ◌+◌, List, [], ◌∷◌, ◌++◌, Bool, true, false, not, ◌==◌, ◌&&◌, ◌||◌, nat_le, if◌then◌else◌, refl, sym, ◌∙◌, ap, subst, append-nil}
-use Rattle.preconv_converter.specs.declared.target.Target.{Target}
-use Rattle.preconv_converter.specs.declared.said.Said.{Said}
-use Rattle.preconv_converter.specs.declared.said.Said.TheVariants as says
-use Rattle.preconv_converter.specs.declared.half.Half.{Half}
-use Rattle.preconv_converter.specs.declared.half.Line.{Line}
-use Rattle.preconv_converter.specs.declared.half.Line.TheVariants as lines
-use Rattle.preconv_converter.specs.declared.half.Coming.TheVariants as comings
-use Rattle.preconv_converter.specs.declared.words.Words.{Words}
-use Rattle.preconv_converter.specs.declared.words.Emitted.{Emitted as WordsEmitted}
-use Rattle.preconv_converter.specs.declared.words.Fonts.{Fonts}
-use Rattle.preconv_converter.specs.declared.words.Fonts.TheVariants as fonts
-use Rattle.preconv_converter.specs.declared.words.Place.{Place}
-use Rattle.preconv_converter.specs.declared.words.Place.TheVariants as places
-use Rattle.preconv_converter.specs.declared.words.Class.{Class}
-use Rattle.preconv_converter.specs.declared.words.Class.TheVariants.{Space, Quote as QuoteClass, Other}
-use Rattle.preconv_converter.specs.Half.{Offered, taken, left, is_format}
-use Rattle.preconv_converter.specs.Hyphens.{mark_of, placed, gone_by, saying, hyphen, hyphen_at, turns_hyphens, line_after}
-use Rattle.preconv_converter.specs.Saying.{bytes_of, sent}
-use Rattle.preconv_converter.specs.Words.{begins_word, is_ninth, class_of, words_at, begun, turned, offered_at, blank_by}
-use Rattle.preconv_converter.specs.Words.{has_hyphens as words_have}
-use Rattle.preconv_converter.specs.Lines.{as_offered, among_words, word_moved, in_words}
-use Rattle.preconv_converter.specs.Offering.{offer, beginning}
+use Rattle.preconv_characters.specs.declared.target.Target.{Target}
+use Rattle.preconv_characters.specs.declared.said.Said.{Said}
+use Rattle.preconv_characters.specs.declared.said.Said.TheVariants as says
+use Rattle.preconv_lines.specs.declared.half.Half.{Half}
+use Rattle.preconv_lines.specs.declared.half.Line.{Line}
+use Rattle.preconv_lines.specs.declared.half.Line.TheVariants as lines
+use Rattle.preconv_lines.specs.declared.half.Coming.TheVariants as comings
+use Rattle.preconv_characters.specs.declared.words.Words.{Words}
+use Rattle.preconv_characters.specs.declared.words.Emitted.{Emitted as WordsEmitted}
+use Rattle.preconv_characters.specs.declared.words.Fonts.{Fonts}
+use Rattle.preconv_characters.specs.declared.words.Fonts.TheVariants as fonts
+use Rattle.preconv_characters.specs.declared.words.Place.{Place}
+use Rattle.preconv_characters.specs.declared.words.Place.TheVariants as places
+use Rattle.preconv_characters.specs.declared.words.Class.{Class}
+use Rattle.preconv_characters.specs.declared.words.Class.TheVariants.{Space, Quote as QuoteClass, Other}
+use Rattle.preconv_lines.specs.Half.{Offered, taken, left, is_format}
+use Rattle.preconv_characters.specs.Marks.{mark_of}
+use Rattle.preconv_lines.specs.Hyphens.{placed, gone_by, saying, hyphen, hyphen_at, turns_hyphens, line_after}
+use Rattle.preconv_characters.specs.Saying.{bytes_of, sent}
+use Rattle.preconv_characters.specs.Words.{begins_word, is_ninth, class_of, words_at, begun, turned}
+use Rattle.preconv_characters.specs.Words.{offered_at, blank_by, has_hyphens as words_have}
+use Rattle.preconv_lines.specs.Lines.{as_offered, among_words, word_moved, in_words}
+use Rattle.preconv_lines.specs.Offering.{offer, beginning}
 use Rattle.preconv_converter.specs.Pieces.{Piece, Same, Quote, Unquote, Turn, Printed, all_were, all_become}
 use Rattle.preconv_converter.proofs.Plain.{and-first, is_not}
-use Rattle.preconv_converter.proofs.Spots.{open_half, Among, Spot, Starts, Flows, Holds, Rests, Turns, half_of, held, begins, Takes, Hears, hears_taken, hears_left}
-use Rattle.preconv_converter.proofs.TextGoes.{IsText, same_byte, moved_by, same_takes, takes_as, IsFlow, hyphen_takes, held_hears}
+use Rattle.preconv_converter.proofs.Spots.{open_half, Among, Spot, Starts, Flows, Holds, Rests, Turns}
+use Rattle.preconv_converter.proofs.Spots.{half_of, held, begins, Takes, Hears, hears_taken, hears_left}
+use Rattle.preconv_converter.proofs.TextGoes.{IsText, same_byte, moved_by, same_takes, takes_as, IsFlow}
+use Rattle.preconv_converter.proofs.TextGoes.{hyphen_takes, held_hears}
 
 -- ---- a byte among words
 

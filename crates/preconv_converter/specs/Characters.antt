@@ -1,10 +1,10 @@
 -- A text in UTF-8 is read as its characters (RFC 3629).
 use Rattle.std.specs.Prelude.{ℕ, List, [], ◌∷◌, nat_lt, if◌then◌else◌}
 use Rattle.std.specs.Char.{encode_utf8}
-use Rattle.preconv_converter.specs.declared.half.Coming.{Coming}
-use Rattle.preconv_converter.specs.declared.half.Coming.TheVariants.{Byte, Wide}
+use Rattle.preconv_lines.specs.declared.half.Coming.{Coming}
+use Rattle.preconv_lines.specs.declared.half.Coming.TheVariants.{Byte, Wide}
 use Rattle.preconv_converter.specs.declared.reader.Reader.{Reader}
-use Rattle.preconv_converter.specs.Offering.{is_raw}
+use Rattle.preconv_lines.specs.Offering.{is_raw}
 use Rattle.preconv_converter.specs.Reading.{Emitted, emitted, then_emitted, heard, fed}
 
 -- a character comes: one of ASCII by its byte, another, and DEL, by its code

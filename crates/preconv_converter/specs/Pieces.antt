@@ -2,11 +2,11 @@
 use Prim.Native.Char.{code}
 use Rattle.std.specs.Prelude.{◌≡◌, ℕ, List, [], ◌∷◌, ◌++◌, codes}
 use Rattle.std.specs.Char.{encode_utf8}
-use Rattle.preconv_converter.specs.declared.target.Target.{Target}
-use Rattle.preconv_converter.specs.Likeness.{likeness}
-use Rattle.preconv_converter.specs.Saying.{all_sent}
-use Rattle.preconv_converter.specs.Glyphs.{letter_of}
-use Rattle.preconv_converter.specs.Faces.{font_or}
+use Rattle.preconv_characters.specs.declared.target.Target.{Target}
+use Rattle.preconv_characters.specs.Likeness.{likeness}
+use Rattle.preconv_characters.specs.Saying.{all_sent}
+use Rattle.preconv_characters.specs.Glyphs.{letter_of}
+use Rattle.preconv_lines.specs.Faces.{font_or}
 
 -- A byte as it came; a character, by itself or by its name, as what it looks like; a font, as one of a
 -- terminal; a hyphen, after which no line is broken; the end of a line whose sentence brackets or quotes

@@ -1,8 +1,8 @@
 -- Text that goes out as it is.
 use Prim.Native.Char.{code}
 use Rattle.std.specs.Prelude.{ℕ, List, [], ◌∷◌, Bool, true, not, ◌==◌, ◌&&◌}
-use Rattle.preconv_converter.specs.Lines.{is_control}
-use Rattle.preconv_converter.specs.Offering.{may_pass}
+use Rattle.preconv_lines.specs.Lines.{is_control}
+use Rattle.preconv_lines.specs.Offering.{may_pass}
 
 -- a byte of ASCII that is neither DEL, a carriage return nor a backslash, and at the beginning of a line no
 -- control character

@@ -1,20 +1,20 @@
 -- Bytes become characters (RFC 3629; ISO 8859-1), and these are heard.
 use Rattle.std.specs.Prelude.{◌≡◌, ℕ, zero, suc, ◌+◌, ◌*◌, ◌%◌, List, [], ◌∷◌, ◌++◌, take, Bool, ◌&&◌, ◌==◌}
 use Rattle.std.specs.Prelude.{nat_lt, if◌then◌else◌}
-use Rattle.preconv_converter.specs.declared.target.Target.{Target}
-use Rattle.preconv_converter.specs.declared.half.Half.{Half}
-use Rattle.preconv_converter.specs.declared.half.Coming.{Coming}
-use Rattle.preconv_converter.specs.declared.half.Coming.TheVariants.{Byte, Wide}
-use Rattle.preconv_converter.specs.declared.half.Line.{Line}
-use Rattle.preconv_converter.specs.declared.half.Line.TheVariants as lines
+use Rattle.preconv_characters.specs.declared.target.Target.{Target}
+use Rattle.preconv_lines.specs.declared.half.Half.{Half}
+use Rattle.preconv_lines.specs.declared.half.Coming.{Coming}
+use Rattle.preconv_lines.specs.declared.half.Coming.TheVariants.{Byte, Wide}
+use Rattle.preconv_lines.specs.declared.half.Line.{Line}
+use Rattle.preconv_lines.specs.declared.half.Line.TheVariants as lines
 use Rattle.preconv_converter.specs.declared.reader.Reader.{Reader}
 use Rattle.preconv_converter.specs.declared.reader.Pending.{Pending}
 use Rattle.preconv_converter.specs.declared.reader.Pending.TheVariants.{Nothing, One, Two, Three}
-use Rattle.preconv_converter.specs.Numbers.{is_within}
-use Rattle.preconv_converter.specs.Saying.{bytes_of, sent, all_sent}
-use Rattle.preconv_converter.specs.Half.{first_half}
-use Rattle.preconv_converter.specs.Lines.{passing}
-use Rattle.preconv_converter.specs.Offering.{offer, is_raw}
+use Rattle.preconv_characters.specs.Numbers.{is_within}
+use Rattle.preconv_characters.specs.Saying.{bytes_of, sent, all_sent}
+use Rattle.preconv_lines.specs.Half.{first_half}
+use Rattle.preconv_lines.specs.Lines.{passing}
+use Rattle.preconv_lines.specs.Offering.{offer, is_raw}
 
 -- What is half read then, what goes out, and in how many steps: a character is offered to what is half read,
 -- or a byte passes as it is.

@@ -3,7 +3,7 @@ use Rattle.std.specs.Prelude.{ℕ, List, Option}
 use Rattle.nr_units.specs.Source.{Supply}
 use Rattle.document_stages.specs.Running as runs
 use Rattle.document_stages.specs.declared.running.RunEnd.{RunEnd}
-use Rattle.preconv_converter.specs.declared.target.Target.{Target}
+use Rattle.preconv_characters.specs.declared.target.Target.{Target}
 use Rattle.preconv_converter.specs.Reading.{first_reader}
 use Rattle.preconv_converter.specs.Staged.{said, steps_said}
 

@@ -4,24 +4,25 @@ use Rattle.std.specs.Prelude.{ℕ, suc, List, [], ◌∷◌, get_or, Bool, true,
 use Rattle.std.specs.Prelude.{if◌then◌else◌, min}
 use Rattle.std.specs.List.{prefix_len}
 use Rattle.nr_units.specs.Name.{capacity}
-use Rattle.preconv_converter.specs.declared.half.Half.{Half}
-use Rattle.preconv_converter.specs.declared.half.Line.{Line}
-use Rattle.preconv_converter.specs.declared.half.Line.TheVariants as lines
-use Rattle.preconv_converter.specs.declared.words.Words.{Words}
-use Rattle.preconv_converter.specs.declared.half.Before.{Before}
-use Rattle.preconv_converter.specs.declared.half.Before.TheVariants.{Character, Argument}
-use Rattle.preconv_converter.specs.declared.half.Mark.{Mark}
-use Rattle.preconv_converter.specs.declared.half.Mark.TheVariants.{Stop, Other}
-use Rattle.preconv_converter.specs.Half.{is_plain, is_open, without_escape, in_text, in_fonts}
-use Rattle.preconv_converter.specs.Hyphens.{mark_of, is_stop, placed, gone_by}
-use Rattle.preconv_converter.specs.Faces.{faced}
-use Rattle.preconv_converter.specs.Numbers.{is_within}
-use Rattle.preconv_converter.specs.declared.beginnings.Opens.{Opens}
-use Rattle.preconv_converter.specs.Lines.{ends_name, opening}
-use Rattle.preconv_converter.specs.Offering.{taken_as_is}
-use Rattle.preconv_converter.specs.declared.words.Place.{Place}
-use Rattle.preconv_converter.specs.declared.words.Place.TheVariants.{Between}
-use Rattle.preconv_converter.specs.Words.{class_of, goes_on_with, begins_word, inside}
+use Rattle.preconv_lines.specs.declared.half.Half.{Half}
+use Rattle.preconv_lines.specs.declared.half.Line.{Line}
+use Rattle.preconv_lines.specs.declared.half.Line.TheVariants as lines
+use Rattle.preconv_characters.specs.declared.words.Words.{Words}
+use Rattle.preconv_characters.specs.declared.marks.Before.{Before}
+use Rattle.preconv_characters.specs.declared.marks.Before.TheVariants.{Character, Argument}
+use Rattle.preconv_characters.specs.declared.marks.Mark.{Mark}
+use Rattle.preconv_characters.specs.declared.marks.Mark.TheVariants.{Stop, Other}
+use Rattle.preconv_lines.specs.Half.{is_plain, is_open, without_escape, in_text, in_fonts}
+use Rattle.preconv_characters.specs.Marks.{mark_of, is_stop}
+use Rattle.preconv_lines.specs.Hyphens.{placed, gone_by}
+use Rattle.preconv_lines.specs.Faces.{faced}
+use Rattle.preconv_characters.specs.Numbers.{is_within}
+use Rattle.preconv_characters.specs.declared.beginnings.Opens.{Opens}
+use Rattle.preconv_lines.specs.Lines.{ends_name, opening}
+use Rattle.preconv_lines.specs.Offering.{taken_as_is}
+use Rattle.preconv_characters.specs.declared.words.Place.{Place}
+use Rattle.preconv_characters.specs.declared.words.Place.TheVariants.{Between}
+use Rattle.preconv_characters.specs.Words.{class_of, goes_on_with, begins_word, inside}
 
 -- a printing byte that is neither a hyphen, a backslash nor what closes a sentence
 abbrev pub goes_on_text : ℕ → Bool

@@ -1,8 +1,8 @@
 -- Lines of which nothing is read: what a comment and an ignored line have changes nothing of the rest.
 use Prim.Native.Char.{code}
 use Rattle.std.specs.Prelude.{◌≡◌, ℕ, List, [], ◌∷◌, ◌++◌, Bool, true, false, not, ◌==◌, ◌&&◌}
-use Rattle.preconv_converter.specs.declared.half.Line.TheVariants as lines
-use Rattle.preconv_converter.specs.declared.half.Dots.TheVariants as dots
+use Rattle.preconv_lines.specs.declared.half.Line.TheVariants as lines
+use Rattle.preconv_lines.specs.declared.half.Dots.TheVariants as dots
 use Rattle.preconv_converter.specs.declared.reader.Reader.{Reader}
 use Rattle.preconv_converter.specs.Reading.{fed}
 

@@ -1,10 +1,10 @@
 -- What goes out of the lines of a page, in any state of it.
 use Rattle.std.specs.Prelude.{◌≡◌, List, [], true, false}
-use Rattle.preconv_converter.specs.declared.half.Line.TheVariants as lines
-use Rattle.preconv_converter.specs.declared.half.Escape.TheVariants as escapes
+use Rattle.preconv_lines.specs.declared.half.Line.TheVariants as lines
+use Rattle.preconv_lines.specs.declared.half.Escape.TheVariants as escapes
 use Rattle.preconv_converter.specs.declared.reader.Reader.{Reader}
 use Rattle.preconv_converter.specs.declared.reader.Pending.TheVariants as pendings
-use Rattle.preconv_converter.specs.declared.target.Target.{Target}
+use Rattle.preconv_characters.specs.declared.target.Target.{Target}
 use Rattle.preconv_converter.specs.Reading.{converted}
 use Rattle.preconv_converter.specs.Staged.{said}
 use Rattle.preconv_converter.specs.Pieces.{GoesOut}

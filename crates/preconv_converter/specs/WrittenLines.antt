@@ -2,15 +2,15 @@
 use Prim.Native.Char.{code}
 use Rattle.std.specs.Prelude.{ℕ, List, [], ◌∷◌, ◌++◌, length, Bool, true, false, not, ◌==◌, ◌&&◌, ◌||◌}
 use Rattle.std.specs.Prelude.{Option, None, Some, nat_lt, codes}
-use Rattle.preconv_converter.specs.declared.beginnings.Opens.{Opens}
-use Rattle.preconv_converter.specs.declared.beginnings.Opens.TheVariants as opens
-use Rattle.preconv_converter.specs.Beginnings.{opened}
+use Rattle.preconv_characters.specs.declared.beginnings.Opens.{Opens}
+use Rattle.preconv_characters.specs.declared.beginnings.Opens.TheVariants as opens
+use Rattle.preconv_characters.specs.Beginnings.{opened}
 use Rattle.std.specs.Char.{encode_utf8}
 use Rattle.std.specs.Str.{all_scalars}
-use Rattle.preconv_converter.specs.Lines.{is_control, ends_name}
+use Rattle.preconv_lines.specs.Lines.{is_control, ends_name}
 use Rattle.preconv_converter.specs.Runs.{is_kept, is_font, goes_on_comment}
-use Rattle.preconv_converter.specs.Half.{is_space}
-use Rattle.preconv_converter.specs.Glyphs.{is_pair, is_native, pair_code}
+use Rattle.preconv_lines.specs.Half.{is_space}
+use Rattle.preconv_characters.specs.Glyphs.{is_pair, is_native, pair_code}
 
 -- a byte of ASCII in a line: neither DEL, a newline, a carriage return nor a backslash
 abbrev pub is_text : ℕ → Bool

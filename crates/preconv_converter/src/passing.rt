@@ -1,17 +1,20 @@
 //! Many bytes at once: those that go out as they are.
 ghost use Rattle.std.specs.Prelude.{◌≡◌, ◌+◌, ◌<◌, ◌≤◌, ◌∷◌, [], length, take, true, false};
 ghost use Rattle.preconv_converter.specs.declared.reader.Pending.TheVariants.{Nothing};
-ghost use Rattle.preconv_converter.specs.Half.{is_open};
+ghost use Rattle.preconv_lines.specs.Half.{is_open};
 ghost use Rattle.preconv_converter.specs.Runs.{dot};
 ghost use Rattle.preconv_converter.specs.Passing.{Passes};
 ghost use Rattle.preconv_converter.specs.Reading as specs;
 
-use super::beginnings::opened;
-use super::half::{Escape, Line};
 use super::reader::{Pending, Reader};
-use super::runs::{begins_comment, begins_font, begins_kept, begins_word_with, is_end};
-use super::said::may_go_out;
+use super::runs::{
+    begins_comment, begins_font, begins_kept, begins_word_with, comment_len, is_end, name_len,
+    run_len, takes_comment, takes_control, takes_font, takes_kept, takes_name, takes_plain_escape,
+    takes_run, takes_word,
+};
 use nr_units::Name;
+use preconv_characters::{may_go_out, opened};
+use preconv_lines::{Escape, Line};
 
 impl Reader {
     /// Whether nothing is half read of a character, and nothing of an escape, and no byte is translated.
@@ -65,9 +68,9 @@ impl Reader {
         ensures plain { Passes result bytes.now self.old self.new }
         ensures pending { self.new.pending ≡ Nothing }
     {
-        let run = self.half.run_len(bytes);
+        let run = run_len(&self.half, bytes);
         if run > 0 {
-            self.half.takes_run(bytes[run - 1]);
+            takes_run(&mut self.half, bytes[run - 1]);
         }
         run
     }
@@ -125,7 +128,7 @@ impl Reader {
         ensures within { result ≤ length bytes.now }
         ensures plain { Passes result bytes.now self.old self.new }
     {
-        let comment = self.half.comment_len(bytes);
+        let comment = comment_len(&self.half, bytes);
         if comment > 0 {
             return comment;
         }
@@ -161,15 +164,15 @@ impl Reader {
         ensures within { result ≤ length bytes.now }
         ensures plain { Passes result bytes.now self.old self.new }
     {
-        if !self.half.takes_plain_escape() {
+        if !takes_plain_escape(&self.half) {
             return 0;
         }
         if begins_kept(bytes) {
-            self.half.takes_kept();
+            takes_kept(&mut self.half);
             return 2;
         }
         if begins_font(bytes) {
-            self.half.takes_font(bytes[2]);
+            takes_font(&mut self.half, bytes[2]);
             return 3;
         }
         0
@@ -186,7 +189,7 @@ impl Reader {
         }
         match self.half.line {
             Line::Words(words) if begins_word_with(words, byte) => {
-                self.half.takes_word(words, byte);
+                takes_word(&mut self.half, words, byte);
                 true
             }
             _ => false,
@@ -205,7 +208,7 @@ impl Reader {
         if !self.is_between() {
             return 0;
         }
-        let len = self.half.name_len(bytes);
+        let len = name_len(&self.half, bytes);
         if len == 0 || len + 1 >= bytes.len() {
             return 0;
         }
@@ -215,7 +218,7 @@ impl Reader {
         if !opens.goes_out(len) || !is_end(end) {
             return 0;
         }
-        self.half.takes_control(opens, end);
+        takes_control(&mut self.half, opens, end);
         len + 2
     }
 
@@ -232,7 +235,7 @@ impl Reader {
         }
         match self.half.line {
             Line::Start if begins_comment(bytes) => {
-                self.half.takes_comment();
+                takes_comment(&mut self.half);
                 true
             }
             _ => false,
@@ -250,10 +253,10 @@ impl Reader {
         if !matches!(self.pending, Pending::Nothing) {
             return 0;
         }
-        let len = self.half.name_len(bytes);
+        let len = name_len(&self.half, bytes);
         if len > 0 {
             let rest = &bytes[1..];
-            self.half.takes_name(Name::of(&rest[..len]));
+            takes_name(&mut self.half, Name::of(&rest[..len]));
             return len;
         }
         0

@@ -1,6 +1,6 @@
 //! Text that goes out as it is.
 ghost use Rattle.std.specs.Prelude.{◌≡◌, IsTrue, length};
-ghost use Rattle.preconv_converter.specs.declared.target.Target.{Target};
+ghost use Rattle.preconv_characters.specs.declared.target.Target.{Target};
 ghost use Rattle.preconv_converter.specs.PlainText.{goes_on, is_plain_text};
 ghost use Rattle.preconv_converter.specs.Reading.{converted, steps_of};
 

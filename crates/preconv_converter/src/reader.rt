@@ -1,12 +1,11 @@
 //! Bytes become characters: UTF-8, and Latin-1 where they are none.
 ghost use Rattle.std.specs.Prelude.{◌≡◌, ◌+◌, ◌*◌, ◌<◌, ◌≤◌, ◌++◌, length, true, false};
-ghost use Rattle.preconv_converter.specs.declared.half.Coming.TheVariants.{Wide};
+ghost use Rattle.preconv_lines.specs.declared.half.Coming.TheVariants.{Wide};
 ghost use Rattle.preconv_converter.specs.Reading as specs;
 
-use super::half::{Coming, Half, Line};
-use super::said::{put_sent, say, say_character, sent};
-use super::target::Target;
 use nr_vectors::slice_vec::SliceVec;
+use preconv_characters::{Target, put_sent, say, say_character, sent};
+use preconv_lines::{Coming, Half, Line};
 
 /// What was read of a character of several bytes.
 #[derive(Clone, Copy)]

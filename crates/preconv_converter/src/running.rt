@@ -7,15 +7,15 @@ ghost use Rattle.document_stages.specs.Running.{TellsReads, is_write_fault};
 ghost use Rattle.preconv_converter.specs.Characters.{read_characters};
 ghost use Rattle.preconv_converter.specs.Reading.{converted, fed, first_reader};
 ghost use Rattle.preconv_converter.specs.Running.{Ran};
-ghost use Rattle.preconv_converter.specs.Saying.{may_go_out};
+ghost use Rattle.preconv_characters.specs.Saying.{may_go_out};
 ghost use Rattle.preconv_converter.specs.Staged.{said, steps_said};
 ghost use Rattle.preconv_converter.specs.Unread.{CommentsAreUnread, IgnoredLinesAreUnread};
 
 use super::staged::PreconvConverter;
-use super::target::Target;
 use document_stages::{RunEnd, run};
 use nr_units::sink::Sink;
 use nr_units::source::Source;
+use preconv_characters::Target;
 
 /// Turns what the input gives into the language of the formatter, and puts it to the output, which is not
 /// flushed. Characters beyond ASCII become what the target says. The buffer, of 1536 bytes at

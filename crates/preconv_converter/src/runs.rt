@@ -3,11 +3,9 @@ ghost use Rattle.std.specs.Prelude.{◌≡◌, ◌+◌, ◌<◌, ◌≤◌, get_
 ghost use Rattle.std.specs.List.{prefix_len};
 ghost use Rattle.preconv_converter.specs.Runs as specs;
 
-use super::beginnings::Opens;
-use super::half::{Before, Escape, Half, Line, Mark};
-use super::hyphens::mark_of;
-use super::words::{Class, Place, Words};
 use nr_units::Name;
+use preconv_characters::{Before, Class, Mark, Opens, Place, Words, mark_of};
+use preconv_lines::{Escape, Half, Line};
 
 /// Each byte that only goes on a text line or a request, at its place, and a hyphen at that of each other.
 static TEXT: [u8; 256] =
@@ -119,135 +117,133 @@ fn comment_run(bytes: &[u8]) -> usize
         .count()
 }
 
-impl Half {
-    /// How many of these bytes come first that only go on the line, in no escape.
-    #[inline(always)]
-    pub(crate) fn run_len(&self, bytes: &[u8]) -> usize
-        ensures len { result ≡ specs.run_len bytes.now self.now }
-        ensures within { result ≤ length bytes.now }
-    {
-        if !self.is_open() {
-            return 0;
-        }
-        match self.line {
-            Line::Text | Line::Request | Line::Stored => text_run(bytes),
-            Line::Words(words) => word_run(words, bytes),
-            _ => 0,
-        }
+/// How many of these bytes come first that only go on the line, in no escape.
+#[inline(always)]
+pub(crate) fn run_len(half: &Half, bytes: &[u8]) -> usize
+    ensures len { result ≡ specs.run_len bytes.now half.now }
+    ensures within { result ≤ length bytes.now }
+{
+    if !half.is_open() {
+        return 0;
     }
+    match half.line {
+        Line::Text | Line::Request | Line::Stored => text_run(bytes),
+        Line::Words(words) => word_run(words, bytes),
+        _ => 0,
+    }
+}
 
-    /// Takes a run that this byte is the last of.
-    #[inline(always)]
-    pub(crate) fn takes_run(&mut self, byte: u8)
-        ensures { self.new ≡ specs.after_run byte self.old }
-    {
-        if !self.manual {
-            return;
-        }
-        if let Before::Character(_) = self.before {
-            self.before = Before::Character(mark_of(byte));
-        }
+/// Takes a run that this byte is the last of.
+#[inline(always)]
+pub(crate) fn takes_run(half: &mut Half, byte: u8)
+    ensures { half.new ≡ specs.after_run byte half.old }
+{
+    if !half.manual {
+        return;
     }
+    if let Before::Character(_) = half.before {
+        half.before = Before::Character(mark_of(byte));
+    }
+}
 
-    /// How many of these bytes come first that only go on a comment.
-    #[inline(always)]
-    pub(crate) fn comment_len(&self, bytes: &[u8]) -> usize
-        ensures len { result ≡ specs.comment_len bytes.now self.now }
-        ensures within { result ≤ length bytes.now }
-    {
-        match self.line {
-            Line::Comment => comment_run(bytes),
-            _ => 0,
-        }
+/// How many of these bytes come first that only go on a comment.
+#[inline(always)]
+pub(crate) fn comment_len(half: &Half, bytes: &[u8]) -> usize
+    ensures len { result ≡ specs.comment_len bytes.now half.now }
+    ensures within { result ≤ length bytes.now }
+{
+    match half.line {
+        Line::Comment => comment_run(bytes),
+        _ => 0,
     }
+}
 
-    /// How long the name is that these bytes begin with after a dot, at the beginning of a line: up to 32 bytes,
-    /// none of which ends it.
-    pub(crate) fn name_len(&self, bytes: &[u8]) -> usize
-        ensures len { result ≡ specs.name_len bytes.now self.now }
-        ensures few { result ≤ 32 }
-        ensures within { 0 < result → result + 1 ≤ length bytes.now }
-    {
-        if !matches!(self.escape, Escape::Plain) || !matches!(self.line, Line::Start) {
-            return 0;
-        }
-        dotted_len(bytes)
+/// How long the name is that these bytes begin with after a dot, at the beginning of a line: up to 32 bytes,
+/// none of which ends it.
+pub(crate) fn name_len(half: &Half, bytes: &[u8]) -> usize
+    ensures len { result ≡ specs.name_len bytes.now half.now }
+    ensures few { result ≤ 32 }
+    ensures within { 0 < result → result + 1 ≤ length bytes.now }
+{
+    if !matches!(half.escape, Escape::Plain) || !matches!(half.line, Line::Start) {
+        return 0;
     }
+    dotted_len(bytes)
+}
 
-    /// Takes the dot and this name.
-    pub(crate) fn takes_name(&mut self, name: Name)
-        ensures { self.new ≡ specs.after_name name self.old }
-    {
-        self.places(Mark::Stop);
-        self.conditional = false;
-        self.name = name;
-        self.line = Line::Name;
-    }
+/// Takes the dot and this name.
+pub(crate) fn takes_name(half: &mut Half, name: Name)
+    ensures { half.new ≡ specs.after_name name half.old }
+{
+    half.places(Mark::Stop);
+    half.conditional = false;
+    half.name = name;
+    half.line = Line::Name;
+}
 
-    /// Takes the dot, a name that opens so, and the blank or newline after it.
-    #[inline(always)]
-    pub(crate) fn takes_control(&mut self, opens: Opens, byte: u8)
-        ensures { self.new ≡ specs.after_control opens byte self.old }
-    {
-        self.takes_name(Name::new());
-        self.opens(opens, byte);
-        self.takes(byte);
-    }
+/// Takes the dot, a name that opens so, and the blank or newline after it.
+#[inline(always)]
+pub(crate) fn takes_control(half: &mut Half, opens: Opens, byte: u8)
+    ensures { half.new ≡ specs.after_control opens byte half.old }
+{
+    takes_name(half, Name::new());
+    half.opens(opens, byte);
+    half.takes(byte);
+}
 
-    /// Takes the beginning of a comment that is a line of its own.
-    #[inline(always)]
-    pub(crate) fn takes_comment(&mut self)
-        ensures { self.new ≡ specs.after_comment self.old }
-    {
-        self.forget();
-        self.name = Name::new();
-        self.conditional = false;
-        self.before = Before::Character(Mark::Other);
-        self.line = Line::Comment;
-    }
+/// Takes the beginning of a comment that is a line of its own.
+#[inline(always)]
+pub(crate) fn takes_comment(half: &mut Half)
+    ensures { half.new ≡ specs.after_comment half.old }
+{
+    half.forget();
+    half.name = Name::new();
+    half.conditional = false;
+    half.before = Before::Character(Mark::Other);
+    half.line = Line::Comment;
+}
 
-    /// Takes the first byte of a word.
-    #[inline(always)]
-    pub(crate) fn takes_word(&mut self, words: Words, byte: u8)
-        requires { words.count < 8 }
-        ensures { self.new ≡ specs.after_word words byte self.old }
-    {
-        self.goes_by(byte);
-        self.line = Line::Words(words.inside());
-    }
+/// Takes the first byte of a word.
+#[inline(always)]
+pub(crate) fn takes_word(half: &mut Half, words: Words, byte: u8)
+    requires { words.count < 8 }
+    ensures { half.new ≡ specs.after_word words byte half.old }
+{
+    half.goes_by(byte);
+    half.line = Line::Words(words.inside());
+}
 
-    /// Whether an escape may begin here that goes out as it is: in no other, and where no word begins with it.
-    pub(crate) fn takes_plain_escape(&self) -> bool
-        ensures { result ≡ specs.takes_plain_escape self.now }
-    {
-        if !matches!(self.escape, Escape::Plain) {
-            return false;
-        }
-        match self.line {
-            Line::Start | Line::Fonts | Line::Text | Line::Request => true,
-            Line::Words(words) => !words.begins_word(),
-            _ => false,
-        }
+/// Whether an escape may begin here that goes out as it is: in no other, and where no word begins with it.
+pub(crate) fn takes_plain_escape(half: &Half) -> bool
+    ensures { result ≡ specs.takes_plain_escape half.now }
+{
+    if !matches!(half.escape, Escape::Plain) {
+        return false;
     }
+    match half.line {
+        Line::Start | Line::Fonts | Line::Text | Line::Request => true,
+        Line::Words(words) => !words.begins_word(),
+        _ => false,
+    }
+}
 
-    /// Takes a font, as `\\fB`.
-    #[inline(always)]
-    pub(crate) fn takes_font(&mut self, letter: u8)
-        ensures { self.new ≡ specs.after_font letter self.old }
-    {
-        self.faces(letter);
-        self.forget();
-        self.line = self.line.with_font();
-    }
+/// Takes a font, as `\\fB`.
+#[inline(always)]
+pub(crate) fn takes_font(half: &mut Half, letter: u8)
+    ensures { half.new ≡ specs.after_font letter half.old }
+{
+    half.faces(letter);
+    half.forget();
+    half.line = half.line.with_font();
+}
 
-    /// Takes an escape of two bytes that goes out as it is.
-    pub(crate) fn takes_kept(&mut self)
-        ensures { self.new ≡ specs.after_kept self.old }
-    {
-        self.places(Mark::Other);
-        self.forget();
-        self.line = self.line.with_text();
-    }
+/// Takes an escape of two bytes that goes out as it is.
+pub(crate) fn takes_kept(half: &mut Half)
+    ensures { half.new ≡ specs.after_kept half.old }
+{
+    half.places(Mark::Other);
+    half.forget();
+    half.line = half.line.with_text();
 }
 
 /// Whether a byte goes on a name.

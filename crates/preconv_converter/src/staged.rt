@@ -5,9 +5,9 @@ ghost use Rattle.preconv_converter.specs.Staged.{counted, said};
 ghost use Rattle.document_stages.specs.Pulling.{fits_always};
 
 use super::reader::{MOST, Reader};
-use super::target::Target;
 use document_stages::Stage;
 use nr_vectors::slice_vec::SliceVec;
+use preconv_characters::Target;
 
 /// Characters and escapes become what the formatter reads, as with `convert`.
 ///

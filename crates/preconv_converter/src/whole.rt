@@ -1,7 +1,7 @@
 //! Characters of two or three bytes in UTF-8 that lie at hand are taken whole.
 ghost use Rattle.std.specs.Prelude.{◌≡◌, ◌+◌, ◌*◌, ◌<◌, ◌≤◌, get_or, length, true, false};
 ghost use Rattle.preconv_converter.specs.declared.reader.Pending.TheVariants.{Nothing};
-ghost use Rattle.preconv_converter.specs.Offering.{is_raw};
+ghost use Rattle.preconv_lines.specs.Offering.{is_raw};
 ghost use Rattle.preconv_converter.specs.Reading as specs;
 
 use super::reader::{Pending, Reader, Taken, is_second, is_tail, low_six};

@@ -11,7 +11,7 @@ use Rattle.program_command.specs.Program.{is_silent}
 use Rattle.nr_units.specs.Failures.{SinkFailures}
 use Rattle.filters.specs.Endings.{Tells}
 use Rattle.preconv_converter.specs.Reading as preconv
-use Rattle.preconv_converter.specs.declared.target.Target.TheVariants.{Ascii}
+use Rattle.preconv_characters.specs.declared.target.Target.TheVariants.{Ascii}
 use Rattle.document_printing.specs.Tables.{has_tables}
 use Rattle.man_lint.specs.Complaints as man
 use Rattle.mdoc_command.specs.Complaints as mdoc

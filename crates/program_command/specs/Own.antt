@@ -1,8 +1,8 @@
 -- Whether a page has a table of characters of its own, which, and what that lacks.
 use Rattle.std.specs.Prelude.{◌≡◌, ℕ, List, Bool, true, false, not, ◌&&◌, if◌then◌else◌, [], Option, None}
 use Rattle.std.specs.Prelude.{Some}
-use Rattle.preconv_converter.specs.Targets.{target_of}
-use Rattle.preconv_converter.specs.declared.target.Target.TheVariants.{Utf8}
+use Rattle.preconv_characters.specs.Targets.{target_of}
+use Rattle.preconv_characters.specs.declared.target.Target.TheVariants.{Utf8}
 use Rattle.utf8_own_characters.specs.declared.counting.Count.{Count}
 use Rattle.utf8_own_characters.specs.Ranking.{ranked}
 use Rattle.utf8_own_page.specs.Lacking.{left_of, names_of, numbered}

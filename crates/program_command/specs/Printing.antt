@@ -4,8 +4,8 @@ use Rattle.std.specs.Borrow.{Bor}
 use Rattle.nr_units.specs.Source.{Supply}
 use Rattle.nr_options.specs.Limits.{Bounds}
 use Rattle.nr_options.specs.declared.options.Options.{Options}
-use Rattle.preconv_converter.specs.Targets.{target_of}
-use Rattle.preconv_converter.specs.declared.target.Target.TheVariants.{Ascii, Utf8}
+use Rattle.preconv_characters.specs.Targets.{target_of}
+use Rattle.preconv_characters.specs.declared.target.Target.TheVariants.{Ascii, Utf8}
 use Rattle.tbl_setting.specs.Drawing.{signs_of}
 use Rattle.utf8_characters.specs.declared.table.FixedTable.{FixedTable}
 use Rattle.utf8_own_characters.specs.Table.{Characters, Good}

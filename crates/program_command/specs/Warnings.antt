@@ -8,7 +8,7 @@ use Rattle.filters.specs.Endings.{Tells}
 use Rattle.preconv_coding.specs.UnderCoding.{coded, text_of}
 use Rattle.preconv_coding.specs.declared.names.Coding.{Coding}
 use Rattle.preconv_converter.specs.Reading as preconv
-use Rattle.preconv_converter.specs.declared.target.Target.TheVariants.{Ascii}
+use Rattle.preconv_characters.specs.declared.target.Target.TheVariants.{Ascii}
 use Rattle.document_printing.specs.Tables.{has_tables}
 use Rattle.document_stages.specs.Pulling.{Stays}
 use Rattle.man_lint.specs.Complaints as man

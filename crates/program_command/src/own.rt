@@ -2,7 +2,7 @@
 ghost use Rattle.std.specs.Prelude.{◌≡◌, ◌<◌, ℕ, List, IfErr, IfOk, None, length, true};
 ghost use Rattle.document_stages.specs.Joined.{Begins};
 ghost use Rattle.document_reader.specs.Page.{IsShort, man_of, plain_of};
-ghost use Rattle.preconv_converter.specs.declared.target.Target.TheVariants.{Utf8};
+ghost use Rattle.preconv_characters.specs.declared.target.Target.TheVariants.{Utf8};
 ghost use Rattle.utf8_own_characters.specs.Counting.{is_once};
 ghost use Rattle.utf8_own_characters.specs.Table.{Good};
 ghost use Rattle.program_command.specs.Own.{HasOwn, counts_of, may_have_numbers, may_need_own, numbered_of, unshown_of};
@@ -15,7 +15,7 @@ use document_reader::{Places, read_own_page, skim_page};
 use document_stages::Text;
 use nr_engine::{Desk, Sink, Source};
 use nr_vectors::CountedAlloc;
-use preconv_converter::Target;
+use preconv_characters::Target;
 use std::alloc::{AllocError, Global};
 use utf8_own_characters::{Count, OwnTable};
 use utf8_own_page::{Cells, counted, lacks, names_of_numbered, signs_of};

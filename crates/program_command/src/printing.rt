@@ -15,7 +15,7 @@ use document_printing::{
 };
 use nr_engine::{Desk, Options, Sink, Source};
 use nr_vectors::CountedAlloc;
-use preconv_converter::Target;
+use preconv_characters::Target;
 use std::alloc::{AllocError, Global};
 use tbl_setting::Complaint;
 use utf8_converter::Shown;

@@ -8,7 +8,7 @@ ghost use Rattle.program_command.specs.Program.{EndsUnrun, IsOfRun, Passes, Warn
 ghost use Rattle.program_command.specs.Running.{IsReading, first_of};
 ghost use Rattle.document_printing.specs.Tables.{has_tables};
 ghost use Rattle.preconv_converter.specs.Reading.{converted};
-ghost use Rattle.preconv_converter.specs.declared.target.Target.TheVariants.{Ascii};
+ghost use Rattle.preconv_characters.specs.declared.target.Target.TheVariants.{Ascii};
 ghost use Rattle.tbl_command.specs.Looking.{AreReportedOf};
 ghost use Rattle.program_command.specs.Printing.{AreAllShort};
 ghost use Rattle.program_command.specs.Warnings.{AreAhead, AreTablesOf, TellsAt, TellsBytes, TellsEach, TellsRead, TellsText, TellsTexts, heard, is_looked_at, lines_of, of_macros, of_man, page_of, tables_job, unlooked, warnings_of};
@@ -26,8 +26,8 @@ use document_stages::Text;
 use filters::put_all;
 use mdoc_command::tell_page;
 use nr_engine::{Sink, Source};
+use preconv_characters::Target;
 use preconv_coding::Coding;
-use preconv_converter::Target;
 use program_options::Job;
 use program_plan::{Macros, cells_of};
 use std::alloc::{AllocError, Global};

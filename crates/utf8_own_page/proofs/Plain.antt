@@ -6,7 +6,7 @@ use Rattle.std.proofs.lemmas.Bool.{false≢true}
 use Rattle.std.proofs.lemmas.Bool.Decides.{nat_tests}
 use Rattle.std.proofs.lemmas.List.{drop-drop, get_or-take}
 use Rattle.utf8_characters.specs.declared.table.FixedTable.TheVariants.{English}
-use Rattle.preconv_converter.specs.Composed.{lacks_letter}
+use Rattle.preconv_characters.specs.Composed.{lacks_letter}
 use Rattle.utf8_own_page.specs.Needing.{AllPlain, before_bracket, begins_number, is_beyond_ascii, is_plain, names_beyond}
 
 -- ---- one byte

@@ -5,7 +5,7 @@ use Rattle.std.specs.Prelude.{◌&&◌, ◌||◌, not, nat_le, nat_lt, if◌then
 use Rattle.utf8_characters.specs.declared.table.FixedTable as fixed
 use Rattle.utf8_characters.specs.declared.table.FixedTable.TheVariants.{English}
 use Rattle.utf8_characters.specs.Tables.{byte_of}
-use Rattle.preconv_converter.specs.Composed.{lacks_letter}
+use Rattle.preconv_characters.specs.Composed.{lacks_letter}
 use Rattle.utf8_own_characters.specs.declared.cluster.Cluster.{Cluster}
 use Rattle.utf8_own_characters.specs.declared.counting.Count.{Count}
 use Rattle.utf8_own_characters.specs.Choosing.{IsFewest, chosen, nothing}

@@ -14,7 +14,7 @@ use super::looking::{MOST_COUNTED, SLOTS, look_at_page};
 use super::making::table_of;
 use nr_units::source::Source;
 use nr_vectors::slice_vec::SliceVec;
-use preconv_converter::Target;
+use preconv_characters::Target;
 use std::alloc::{AllocError, Global};
 use std::marker::Model;
 use utf8_own_characters::{

@@ -6,7 +6,7 @@ ghost use Rattle.utf8_own_page.specs.Lacking as specs;
 
 use itoa::Buffer;
 use nr_vectors::slice_vec::SliceVec;
-use preconv_converter::{Target, put_likeness};
+use preconv_characters::{Target, put_likeness};
 use std::alloc::{AllocError, Global};
 use utf8_own_characters::{Cluster, Count};
 

@@ -1,6 +1,6 @@
 //! The table of a page's own characters: what a page prints is looked at, and where no fixed table has all of it, one is made of it.
 //!
-//! It stands on preconv_converter, utf8_own_characters, utf8_characters, tbl_table, nr_vectors and nr_units. To read: `looking`, `needing`, `making`, `lacking`, `cells`, `signs`; `laws`.
+//! It stands on preconv_characters, utf8_own_characters, utf8_characters, tbl_table, nr_vectors and nr_units. To read: `looking`, `needing`, `making`, `lacking`, `cells`, `signs`; `laws`.
 #![tactic(auto)]
 
 mod cells;

@@ -3,7 +3,7 @@ ghost use Rattle.std.specs.Prelude.{◌≡◌, ◌≤◌, drop, false, length, t
 ghost use Rattle.utf8_own_page.specs.Needing as specs;
 ghost use Rattle.utf8_own_page.specs.Needing.{AllPlain};
 
-use preconv_converter::lacks_letter;
+use preconv_characters::lacks_letter;
 use utf8_characters::FixedTable as Fixed;
 use utf8_own_characters::{Cluster, Count};
 

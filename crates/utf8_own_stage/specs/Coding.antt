@@ -1,7 +1,7 @@
 -- The characters of a page become the bytes of its own table, and points go between them.
 use Rattle.std.specs.Prelude.{ℕ, List, [], ◌∷◌, ◌++◌, Bool, true, false, Option, None, Some, if◌then◌else◌}
-use Rattle.preconv_converter.specs.Likeness.{likeness}
-use Rattle.preconv_converter.specs.declared.target.Target.TheVariants.{Ascii}
+use Rattle.preconv_characters.specs.Likeness.{likeness}
+use Rattle.preconv_characters.specs.declared.target.Target.TheVariants.{Ascii}
 use Rattle.utf8_own_characters.specs.declared.cluster.Cluster.{Cluster}
 use Rattle.utf8_own_characters.specs.declared.table.Code.{Code}
 use Rattle.utf8_own_characters.specs.declared.table.Code.TheVariants.{One, Two}

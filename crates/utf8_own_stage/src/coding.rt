@@ -9,7 +9,7 @@ use super::plain::{is_plain, is_ready, put_plain};
 use super::points::{Place, Point};
 use super::runs::{letter_of, put_letters};
 use nr_vectors::slice_vec::SliceVec;
-use preconv_converter::{Target, put_likeness};
+use preconv_characters::{Target, put_likeness};
 use utf8_own_characters::{Cluster, Code, Listened, Listener, OwnTable};
 
 /// The most bytes of what comes of one that is read.

@@ -1,5 +1,5 @@
 use Rattle.std.proofs.Common.{◌∙◌, Bool, ap, rules}
-use Rattle.preconv_converter.specs.Targets.{target_of}
+use Rattle.preconv_characters.specs.Targets.{target_of}
 use Rattle.tbl_setting.specs.Drawing.{signs_of}
 use Rattle.tbl_stage.specs.Text.{bounds_in}
 use Rattle.nulbiko.specs.Document.{sets_of, tables_by}

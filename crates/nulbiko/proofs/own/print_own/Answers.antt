@@ -1,6 +1,6 @@
 use Rattle.std.proofs.Common.{◌∙◌, Bool, ap, rules}
-use Rattle.preconv_converter.specs.Targets.{target_of}
-use Rattle.preconv_converter.specs.declared.target.Target.TheVariants.{Ascii}
+use Rattle.preconv_characters.specs.Targets.{target_of}
+use Rattle.preconv_characters.specs.declared.target.Target.TheVariants.{Ascii}
 use Rattle.tbl_stage.specs.Text.{bounds_in}
 use Rattle.nulbiko.specs.Document.{table_for, tables_by}
 use Rattle.nulbiko.specs.Own.{counts_for}

@@ -1,6 +1,6 @@
 use Rattle.std.proofs.Common.{◌≡◌, ◌∙◌, ◌<◌, ℕ, List, length, refl, subst}
 use Rattle.preconv_coding.specs.UnderCoding.{text_of}
-use Rattle.preconv_converter.specs.declared.target.Target.TheVariants.{Utf8}
+use Rattle.preconv_characters.specs.declared.target.Target.TheVariants.{Utf8}
 use Rattle.document_reader.specs.Page.{own_of, plain_of}
 use Rattle.utf8_own_characters.specs.Table.{Characters}
 use Rattle.nulbiko.specs.Looked.{characters_alone, counts_in}

@@ -1,6 +1,6 @@
 use Rattle.std.proofs.Common.{◌≡◌, List, [], ℕ, Bool, true, false, if◌then◌else◌, Result, Ok, Err, IfOk, sym, refl, ap, ◌∙◌}
-use Rattle.preconv_converter.specs.Targets.{target_of}
-use Rattle.preconv_converter.specs.declared.target.Target.{Target}
+use Rattle.preconv_characters.specs.Targets.{target_of}
+use Rattle.preconv_characters.specs.declared.target.Target.{Target}
 use Rattle.utf8_own_characters.specs.declared.counting.Count.{Count}
 use Rattle.utf8_own_characters.specs.Ranking.{ranked}
 use Rattle.utf8_own_page.specs.Lacking.{names_of, numbered}

@@ -6,7 +6,7 @@ use Rattle.document_stages.specs.declared.running.RunEnd.{RunEnd}
 use Rattle.preconv_coding.specs.UnderCoding.{text_supply}
 use Rattle.preconv_converter.specs.Reading.{first_reader}
 use Rattle.preconv_converter.specs.Staged.{said}
-use Rattle.preconv_converter.specs.declared.target.Target.TheVariants.{Utf8}
+use Rattle.preconv_characters.specs.declared.target.Target.TheVariants.{Utf8}
 use Rattle.utf8_own_characters.specs.Table.{Characters}
 use Rattle.utf8_own_stage.specs.Coding.{coded_text}
 use Rattle.filters.specs.Turning.{Turned}

@@ -1,7 +1,7 @@
 use Rattle.std.proofs.Common.{◌+◌, ◌++◌, ◌-◌, List, ℕ, ◌∙◌, sym, ap, append_assoc, append-nil, arith}
 use Rattle.preconv_converter.specs.declared.reader.Reader.{Reader}
 use Rattle.preconv_converter.specs.Reading.{Emitted, heard_in, with_half}
-use Rattle.preconv_converter.specs.Saying.{bytes_of}
+use Rattle.preconv_characters.specs.Saying.{bytes_of}
 use Rattle.preconv_converter.proofs.Hearing.{heard_taken, heard_left}
 use Rattle.preconv_converter.proofs.reader.Reader.+hear_in.Goals as goal
 

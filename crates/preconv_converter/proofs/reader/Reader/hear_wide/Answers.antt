@@ -1,6 +1,6 @@
 use Rattle.std.proofs.Common.{◌++◌, sym, ◌∙◌, ap}
 use Rattle.preconv_converter.specs.Reading.{Emitted}
-use Rattle.preconv_converter.proofs.WideText.{wide_heard}
+use Rattle.preconv_converter.proofs.Hearing.{wide_heard}
 use Rattle.preconv_converter.proofs.reader.Reader.hear_wide.Goals as goal
 
 pub returns-then-takes_wide-clause-reader : goal.returns-then-takes_wide-clause-reader

@@ -1,7 +1,7 @@
 use Rattle.std.proofs.lemmas.Grind.{common_steps}
 use Rattle.std.proofs.Common.{◌++◌, sym, ◌∙◌, ap, arith}
-use Rattle.preconv_converter.specs.declared.half.Half.{Half}
-use Rattle.preconv_converter.specs.declared.half.Coming.{Coming}
+use Rattle.preconv_lines.specs.declared.half.Half.{Half}
+use Rattle.preconv_lines.specs.declared.half.Coming.{Coming}
 use Rattle.preconv_converter.specs.Reading.{Emitted, heard_in, with_half}
 use Rattle.preconv_converter.proofs.Plain.{heard_as_is}
 use Rattle.preconv_converter.proofs.reader.Reader.hears_as_is.Goals as goal

@@ -1,7 +1,7 @@
 use Rattle.std.proofs.Common.{take, not, sym, ◌∙◌, ap}
-use Rattle.preconv_converter.specs.declared.half.Half.{Half}
+use Rattle.preconv_lines.specs.declared.half.Half.{Half}
 use Rattle.preconv_converter.specs.Reading.{emitted, with_half}
-use Rattle.preconv_converter.specs.Half.{is_plain}
+use Rattle.preconv_lines.specs.Half.{is_plain}
 use Rattle.preconv_converter.proofs.Plain.{and-first}
 use Rattle.preconv_converter.proofs.CommentLines.{comment_begun}
 use Rattle.preconv_converter.proofs.reader.Reader.pass_comment.Goals as goal

@@ -1,8 +1,8 @@
 use Rattle.std.proofs.Common.{◌≡◌, ◌+◌, ◌-◌, ◌∙◌, ℕ, List, length, take, drop, get_or, refl, sym, ap, true, arith}
 use Rattle.std.proofs.lemmas.List.{take-take}
-use Rattle.preconv_converter.specs.declared.half.Half.{Half}
-use Rattle.preconv_converter.specs.declared.beginnings.Opens.{Opens}
-use Rattle.preconv_converter.specs.Beginnings.{opened, goes_out}
+use Rattle.preconv_lines.specs.declared.half.Half.{Half}
+use Rattle.preconv_characters.specs.declared.beginnings.Opens.{Opens}
+use Rattle.preconv_characters.specs.Beginnings.{opened, goes_out}
 use Rattle.preconv_converter.specs.Reading.{emitted, with_half}
 use Rattle.preconv_converter.specs.Runs.{after_control}
 use Rattle.preconv_converter.proofs.Controls.{control_fed}
@@ -22,4 +22,4 @@ returns-clause-taken c = λ _.
     control_fed n bs r b (c.is_between.ensures.pending c.if-not-is_between.false) (c.is_between.ensures.clear c.if-not-is_between.false) c.name_len-len.ensures.len (omega arith) (omega arith) refl
     (sym c.is_end.ensures ∙ c.if-not-is_end.false) goes
     ∙ ap (λ (h : Half). emitted (with_half h r) (take (n + 2) bs) (n + 3)) (ap (λ (o : Opens). after_control o b r.half) (sym is) ∙ sym c.takes_control.ensures)
-    ∙ ap (λ (m : ℕ). emitted (with_half c.takes_control.new.self r) (take (n + 2) bs) m) (let e : n + 3 ≡ n + 2 + 1 = omega arith in e)
+    ∙ ap (λ (m : ℕ). emitted (with_half c.takes_control.new.half r) (take (n + 2) bs) m) (let e : n + 3 ≡ n + 2 + 1 = omega arith in e)

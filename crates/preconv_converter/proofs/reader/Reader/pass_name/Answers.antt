@@ -1,7 +1,7 @@
 use Rattle.std.proofs.Common.{◌≡◌, ◌+◌, ◌-◌, ◌∷◌, ◌∙◌, ℕ, List, [], length, take, drop, subst, sym, ap, arith}
 use Rattle.std.proofs.lemmas.List.{take-take}
 use Rattle.std.proofs.lemmas.Bool.{false≢true}
-use Rattle.preconv_converter.specs.declared.half.Half.{Half}
+use Rattle.preconv_lines.specs.declared.half.Half.{Half}
 use Rattle.preconv_converter.specs.declared.reader.Pending.TheVariants.{Nothing}
 use Rattle.preconv_converter.specs.Reading.{fed, emitted, with_half}
 use Rattle.preconv_converter.specs.Runs.{after_name}

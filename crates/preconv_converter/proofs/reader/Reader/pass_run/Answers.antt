@@ -1,5 +1,5 @@
 use Rattle.std.proofs.Common.{sym, subst, arith}
-use Rattle.preconv_converter.specs.declared.half.Half.{Half}
+use Rattle.preconv_lines.specs.declared.half.Half.{Half}
 use Rattle.preconv_converter.specs.Passing.{Passes}
 use Rattle.preconv_converter.specs.Reading.{with_half}
 use Rattle.preconv_converter.proofs.AtOnce.{run_all}

@@ -1,5 +1,5 @@
 use Rattle.std.proofs.Common.{[], ◌∷◌, sym, ◌∙◌, ap}
-use Rattle.preconv_converter.specs.declared.half.Half.{Half}
+use Rattle.preconv_lines.specs.declared.half.Half.{Half}
 use Rattle.preconv_converter.specs.Reading.{emitted, with_half}
 use Rattle.preconv_converter.proofs.Plain.{read_as_is}
 use Rattle.preconv_converter.proofs.reader.Reader.passes.Goals as goal

@@ -1,5 +1,5 @@
 use Rattle.std.proofs.Common.{ℕ, ◌++◌, ◌∙◌, ap}
-use Rattle.preconv_converter.specs.declared.half.Coming.TheVariants.{Wide}
+use Rattle.preconv_lines.specs.declared.half.Coming.TheVariants.{Wide}
 use Rattle.preconv_converter.specs.Reading.{heard}
 use Rattle.preconv_converter.proofs.WholeTaken.{Takes-three}
 use Rattle.preconv_converter.proofs.reader.Reader.take_three.Goals as goal

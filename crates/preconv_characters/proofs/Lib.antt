@@ -1,0 +1,5 @@
+pub mod Itself
+pub mod MarksRead
+pub mod OpeningTable
+pub mod SentWhole
+pub mod Tests

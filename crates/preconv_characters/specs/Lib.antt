@@ -1,0 +1,9 @@
+pub mod Beginnings
+pub mod Composed
+pub mod Glyphs
+pub mod Likeness
+pub mod Marks
+pub mod Numbers
+pub mod Saying
+pub mod Targets
+pub mod Words

@@ -1,6 +1,0 @@
-use Rattle.preconv_converter.specs.Composed.{accent_code}
-use Rattle.preconv_converter.proofs.composed.accent_code.Goals as goal
-
-pub returns : goal.returns
-unfolding accent_code
-returns c = c.named_in.ensures

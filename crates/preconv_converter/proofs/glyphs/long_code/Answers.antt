@@ -1,6 +1,0 @@
-use Rattle.preconv_converter.specs.Glyphs.{long_code}
-use Rattle.preconv_converter.proofs.glyphs.long_code.Goals as goal
-
-pub returns : goal.returns
-unfolding long_code
-returns c = c.named_in.ensures

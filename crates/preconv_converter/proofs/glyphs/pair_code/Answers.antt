@@ -1,6 +1,0 @@
-use Rattle.preconv_converter.specs.Glyphs.{pair_code}
-use Rattle.preconv_converter.proofs.glyphs.pair_code.Goals as goal
-
-pub returns : goal.returns
-unfolding pair_code
-returns c = c.looked_up.ensures

@@ -1,5 +1,0 @@
-use Rattle.std.proofs.Common.{rules}
-use Rattle.preconv_converter.proofs.half.Half.dropped.Goals as goal
-
-pub returns : goal.returns
-returns c = search rules

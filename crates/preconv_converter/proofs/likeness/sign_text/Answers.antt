@@ -1,6 +1,0 @@
-use Rattle.preconv_converter.specs.Likeness.{sign_text}
-use Rattle.preconv_converter.proofs.likeness.sign_text.Goals as goal
-
-pub returns : goal.returns
-unfolding sign_text
-returns c = c.text_in.ensures

@@ -1,6 +1,0 @@
-use Rattle.preconv_converter.specs.Likeness.{word_text}
-use Rattle.preconv_converter.proofs.likeness.word_text.Goals as goal
-
-pub returns : goal.returns
-unfolding word_text
-returns c = c.text_in.ensures

@@ -1,0 +1,13 @@
+pub mod Conditions
+pub mod Endings
+pub mod Escapes
+pub mod Faces
+pub mod Half
+pub mod Hyphens
+pub mod Letters
+pub mod Lines
+pub mod Named
+pub mod Offering
+pub mod Skipping
+pub mod Spelling
+pub mod Translations
