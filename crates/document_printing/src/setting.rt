@@ -20,6 +20,40 @@ use nr_units::source::Source;
 use tbl_setting::Complaint;
 use tbl_stage::{Rooms, Turning, set_tables};
 
+/// A text is formatted after its macros, with its tables.
+fn format_set<R: Source + Lines + Drop, W: Sink>(
+    input: R,
+    setup: &Setup<'_>,
+    rooms: &mut Rooms,
+    complaints: &mut [Complaint],
+    desk: &mut Desk,
+    output: &mut W,
+) -> Pulled
+    ensures answers { (q : Supply) → R.supply input ≡ Some q →
+        Answers desk.old (start desk.old setup.now.options.now (preceded setup.now.macros.now
+        (set_text (bounds_in rooms.old) q)))
+        result.moves result.outcome (W.held output.old) (W.held output.new) }
+    ensures desk { desk.new ≡ desk.old }
+    ensures write_faults { W.failures output.new ≡ put_counted_if (is_write_fault result.outcome) (W.failures output.old) }
+{
+    let mut text = set_tables(input, rooms, complaints);
+    let mut moves = 0;
+    let outcome = format_joined(&mut text, setup, desk, output, &mut moves);
+    let line = text.line();
+    let turner = text.stage();
+    let tables = SetTables {
+        full: turner.is_full(),
+        complaints: turner.complaints().len(),
+        missed: turner.has_missed(),
+    };
+    Pulled {
+        outcome,
+        line,
+        moves,
+        tables,
+    }
+}
+
 /// A page is formatted after its macros, with its tables. Nothing is allocated.
 pub(crate) fn pull_set<R: Source + Drop, W: Sink>(
     input: R,
@@ -46,20 +80,5 @@ pub(crate) fn pull_set<R: Source + Drop, W: Sink>(
 {
     let mut places = Places::new();
     let page = read_page(input, setup.stages, setup.characters, places.lend());
-    let mut text = set_tables(page, rooms, complaints);
-    let mut moves = 0;
-    let outcome = format_joined(&mut text, setup, desk, output, &mut moves);
-    let line = text.line();
-    let turner = text.stage();
-    let tables = SetTables {
-        full: turner.is_full(),
-        complaints: turner.complaints().len(),
-        missed: turner.has_missed(),
-    };
-    Pulled {
-        outcome,
-        line,
-        moves,
-        tables,
-    }
+    format_set(page, setup, rooms, complaints, desk, output)
 }
