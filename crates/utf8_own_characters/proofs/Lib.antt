@@ -1,3 +1,4 @@
+pub mod Ascii
 pub mod ChoiceLaws
 pub mod Coding
 pub mod Counted

@@ -4,10 +4,11 @@ use Rattle.std.specs.Prelude.{nat_le, nat_lt, if◌then◌else◌, Option, None,
 use Rattle.unicode_width.specs.Width.{char_width}
 use Rattle.utf8_own_characters.specs.declared.cluster.Cluster.{Cluster}
 use Rattle.utf8_own_characters.specs.declared.counting.Count.{Count}
-use Rattle.utf8_own_characters.specs.Cluster.{is_ascii}
+use Rattle.utf8_own_characters.specs.declared.listening.Listener.{Listener}
+use Rattle.utf8_own_characters.specs.Cluster.{is_ascii, single}
 use Rattle.utf8_own_characters.specs.Counting.{counted_within}
-use Rattle.utf8_own_characters.specs.Decoding.{character_of, with_six}
-use Rattle.utf8_own_characters.specs.Listening.{begins_three, is_within}
+use Rattle.utf8_own_characters.specs.Decoding.{character_of, none, with_six}
+use Rattle.utf8_own_characters.specs.Listening.{begins_three, is_within, plain_after, takes_marks}
 
 -- a blank, or a hyphen that shows only where a line ends
 abbrev pub is_gap : ℕ → Bool
@@ -33,6 +34,12 @@ noted room xs (Some c) = if takes_place c then counted_within room xs c else xs
 abbrev pub seen : ℕ → List Count → List Cluster → List Count
 seen room xs [] = xs
 seen room xs (c ∷ cs) = seen room (noted room xs (Some c)) cs
+
+-- ---- bytes of ASCII that are looked at one after another
+
+-- what is half read after one
+abbrev pub after_byte : ℕ → Bool → Listener
+after_byte b is_plain = record { part = none; held = if takes_marks b is_plain then Some (single b) else None; is_plain = plain_after b is_plain }
 
 -- ---- letters that are looked at one after another
 

@@ -40,7 +40,7 @@ fn is_unseen(character: char) -> bool
 
 /// Whether marks may come on a character: on a letter of ASCII that is no part of an escape, and on all beyond ASCII.
 #[inline(always)]
-fn takes_marks(character: char, is_plain: bool) -> bool
+pub(crate) fn takes_marks(character: char, is_plain: bool) -> bool
     ensures { result ≡ specs.takes_marks character is_plain }
 {
     let code = u32::from(character);
@@ -52,7 +52,7 @@ fn takes_marks(character: char, is_plain: bool) -> bool
 
 /// Whether letters after a character are no names of escapes, if those before it are or are not.
 #[inline(always)]
-fn plain_after(character: char, is_plain: bool) -> bool
+pub(crate) fn plain_after(character: char, is_plain: bool) -> bool
     ensures { result ≡ specs.plain_after character is_plain }
 {
     match u32::from(character) {

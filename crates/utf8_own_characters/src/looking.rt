@@ -1,5 +1,5 @@
 //! A first look at what a page prints: how often each of its clusters comes.
-ghost use Rattle.std.specs.Prelude.{◌≡◌, ◌<◌, ◌≤◌, length, take, true, IfSome};
+ghost use Rattle.std.specs.Prelude.{◌≡◌, ◌<◌, ◌≤◌, get_or, length, take, true, IfSome};
 ghost use Rattle.utf8_own_characters.specs.Counting.{is_once};
 ghost use Rattle.utf8_own_characters.specs.Listening.{after, begins_two, done_in};
 ghost use Rattle.utf8_own_characters.specs.Looking as specs;
@@ -7,7 +7,7 @@ ghost use Rattle.utf8_own_characters.specs.Looking as specs;
 use super::cluster::Cluster;
 use super::counting::{Count, count_cluster};
 use super::decoding::{Part, character_of};
-use super::listening::{Listener, begins_pair, is_three};
+use super::listening::{Listener, begins_pair, is_three, plain_after, takes_marks};
 use nr_vectors::slice_vec::SliceVec;
 use unicode_width::UnicodeWidthChar;
 
@@ -198,6 +198,54 @@ fn look_at_letters(
     Looked { count, fits }
 }
 
+/// What a listener heard of a byte of ASCII, if letters before it were or were not plain.
+#[inline(always)]
+fn heard_byte(byte: u8, is_plain: bool) -> Listener
+    ensures { result ≡ specs.after_byte byte is_plain }
+{
+    let character = char::from(byte);
+    Listener {
+        part: Part::none(),
+        held: if takes_marks(character, is_plain) {
+            Some(Cluster::single(character))
+        } else {
+            None
+        },
+        is_plain: plain_after(character, is_plain),
+    }
+}
+
+/// Looks at the bytes of ASCII that these begin with: only what was held before them may be counted.
+#[inline(always)]
+fn look_at_ascii(
+    bytes: &[u8],
+    listener: &mut Listener,
+    counts: &mut SliceVec<'_, Count>,
+    slots: &mut [u16],
+) -> Looked
+    requires some { 0 < length bytes.now }
+    requires ascii { get_or bytes.now 0 0 < 128 }
+    requires once { is_once counts.old.items ≡ true }
+    ensures items { counts.new.items ≡ specs.seen counts.old.capacity counts.old.items (done_in listener.old (take result.count bytes.now)) }
+    ensures listener { listener.new ≡ after listener.old (take result.count bytes.now) }
+    ensures once { is_once counts.new.items ≡ true }
+    ensures room { counts.new.capacity ≡ counts.old.capacity }
+    ensures some { 0 < result.count }
+    ensures within { result.count ≤ length bytes.now }
+{
+    let fits = note(counts, slots, listener.held);
+    let mut last = bytes[0];
+    let mut is_plain = listener.is_plain;
+    let mut count = 1;
+    while count < bytes.len() && bytes[count] < 128 {
+        is_plain = plain_after(char::from(last), is_plain);
+        last = bytes[count];
+        count += 1;
+    }
+    *listener = heard_byte(last, is_plain);
+    Looked { count, fits }
+}
+
 /// Looks at the first of these bytes, or at the character that they begin with.
 #[inline(always)]
 fn look_at_first(
@@ -216,8 +264,7 @@ fn look_at_first(
     ensures within { result.count ≤ length bytes.now }
 {
     if bytes[0] < 128 {
-        let fits = look_at_one(bytes, listener, counts, slots);
-        return Looked { count: 1, fits };
+        return look_at_ascii(bytes, listener, counts, slots);
     }
     if let Some(letter) = placed_letter(bytes) {
         return look_at_letters(bytes, letter, listener, counts, slots);
