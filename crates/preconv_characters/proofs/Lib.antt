@@ -1,4 +1,5 @@
 pub mod Itself
+pub mod Long
 pub mod MarksRead
 pub mod OpeningTable
 pub mod SentWhole

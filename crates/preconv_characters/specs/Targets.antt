@@ -2,7 +2,7 @@
 use Prim.Native.Char.{code}
 use lib.Utf8.{scalar}
 use Rattle.std.specs.Char.{encode_utf8}
-use Rattle.std.specs.Prelude.{ℕ, List, Bool, true, false, if◌then◌else◌, Option, None, Some}
+use Rattle.std.specs.Prelude.{ℕ, List, Bool, true, false, ◌&&◌, ◌||◌, nat_le, if◌then◌else◌, Option, None, Some}
 use Rattle.utf8_characters.specs.declared.table.FixedTable.{FixedTable}
 use Rattle.utf8_characters.specs.Tables.{byte_of}
 use Rattle.preconv_characters.specs.declared.target.Target.{Target}
@@ -31,3 +31,7 @@ shown c = if scalar c then c else code "?"
 -- a character itself, in UTF-8
 abbrev pub itself : ℕ → List ℕ
 itself c = encode_utf8 (shown c)
+
+-- three bytes in UTF-8, beyond the signs that print nothing
+abbrev pub is_long : ℕ → Bool
+is_long c = (nat_le 0x2070 c && nat_le c 0xD7FF) || (nat_le 0xE000 c && nat_le c 0xFFFF)

@@ -1,6 +1,6 @@
 //! What a character looks like.
-ghost use Rattle.std.specs.Prelude.{◌≡◌, ◌+◌, ◌≤◌, ◌<◌, ◌++◌, length};
-ghost use Rattle.preconv_characters.specs.Targets.{byte_in_force, itself, shown};
+ghost use Rattle.std.specs.Prelude.{◌≡◌, ◌+◌, ◌≤◌, ◌<◌, ◌++◌, length, true};
+ghost use Rattle.preconv_characters.specs.Targets.{byte_in_force, is_long, itself, shown};
 ghost use Rattle.preconv_characters.specs.Likeness.{ascii_like, before_nul, beyond_like, box_like, code_emitted, hex_digit, is_blank, is_latin_letter, is_mark, letter_in, likeness, marked_like, plain_letter, sign_like, sign_text, struck_like, text_in, word_text};
 
 use super::composed::Marked;
@@ -48,6 +48,30 @@ pub(crate) fn put_itself(code: u32, out: &mut SliceVec<'_, u8>)
     let mut buffer = [0; 4];
     let text = character_of(code).encode_utf8(&mut buffer).as_bytes();
     out.extend(text);
+}
+
+/// Whether a character is three bytes in UTF-8, and stands beyond the signs that print nothing.
+#[inline(always)]
+pub(crate) fn is_long(code: u32) -> bool
+    ensures { result ≡ is_long code }
+{
+    matches!(code, 0x2070..=0xD7FF | 0xE000..=0xFFFF)
+}
+
+/// Puts such a character itself.
+#[inline(always)]
+pub(crate) fn put_long(code: u32, out: &mut SliceVec<'_, u8>)
+    requires long { is_long code ≡ true }
+    requires room { length out.old.items + 4 ≤ out.old.capacity }
+    ensures items { out.new.items ≡ out.old.items ++ itself code }
+    ensures few { length out.new.items ≤ length out.old.items + 4 }
+    ensures room { out.new.capacity ≡ out.old.capacity }
+{
+    out.extend(&[
+        (0xE0 + code / 4096) as u8,
+        (0x80 + code / 64 % 64) as u8,
+        (0x80 + code % 64) as u8,
+    ]);
 }
 
 /// The letter of a row of letters that begins with `first`, if it has one for the code.

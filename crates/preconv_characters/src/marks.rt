@@ -95,11 +95,23 @@ pub fn mark_of(byte: u8) -> Mark
     mark_by(is_ascii_letter(byte), u32::from(byte))
 }
 
-/// What another character is.
-pub fn wide_mark(code: u32) -> Mark
+/// What a character is that may be no letter.
+#[inline(never)]
+fn other_mark(code: u32) -> Mark
     ensures { result ≡ specs.wide_mark code }
 {
     mark_by(is_letter(code), code)
+}
+
+/// What another character is.
+#[inline]
+pub fn wide_mark(code: u32) -> Mark
+    ensures { result ≡ specs.wide_mark code }
+{
+    if code >= 0x2C00 {
+        return Mark::Letter;
+    }
+    other_mark(code)
 }
 
 /// A digit.

@@ -4,7 +4,9 @@ ghost use Rattle.preconv_characters.specs.declared.said.Said.TheVariants.{Charac
 ghost use Rattle.preconv_characters.specs.Saying.{all_sent, arguments, bytes_of, may_go_out, native, sent, text_of};
 
 use super::composed::Marked;
-use super::likeness::{CUT, byte_in_force, put_itself, put_likeness, put_marked, put_struck};
+use super::likeness::{
+    CUT, byte_in_force, is_long, put_itself, put_likeness, put_long, put_marked, put_struck,
+};
 use super::target::Target;
 use nr_units::Name;
 use nr_vectors::slice_vec::SliceVec;
@@ -150,8 +152,9 @@ fn say_through(said: Said, target: Target, out: &mut SliceVec<'_, u8>)
     put_sent(text.as_slice(), target, out);
 }
 
-/// Puts a character, as it may go out: at most 64 bytes. Itself and the byte of a table go out as they are.
-pub fn say_character(code: u32, target: Target, out: &mut SliceVec<'_, u8>)
+/// Puts a character, as it may go out, which is no such letter as below. Itself and the byte of a table go out as they are.
+#[inline(never)]
+fn say_other(code: u32, target: Target, out: &mut SliceVec<'_, u8>)
     requires { length out.old.items + 64 ≤ out.old.capacity }
     ensures items { out.new.items ≡ out.old.items ++ bytes_of target (Character code) }
     ensures few { length out.new.items ≤ length out.old.items + 64 }
@@ -169,6 +172,21 @@ pub fn say_character(code: u32, target: Target, out: &mut SliceVec<'_, u8>)
         Some(byte) => out.push(byte),
         None => say_through(Said::Character(code), target, out),
     }
+}
+
+/// Puts a character, as it may go out: at most 64 bytes. Most letters beyond ASCII are three bytes, and go out as they are.
+#[inline]
+pub fn say_character(code: u32, target: Target, out: &mut SliceVec<'_, u8>)
+    requires { length out.old.items + 64 ≤ out.old.capacity }
+    ensures items { out.new.items ≡ out.old.items ++ bytes_of target (Character code) }
+    ensures few { length out.new.items ≤ length out.old.items + 64 }
+    ensures room { out.new.capacity ≡ out.old.capacity }
+{
+    if target.is_utf8() && is_long(code) {
+        put_long(code, out);
+        return;
+    }
+    say_other(code, target, out);
 }
 
 /// Puts what is said, as it may go out, after what goes out: at most 64 bytes.
