@@ -6,6 +6,7 @@ pub mod Covered
 pub mod FixedLaws
 pub mod Letters
 pub mod NoneAfter
+pub mod Passed
 pub mod Places
 pub mod Ranked
 pub mod RowLaws

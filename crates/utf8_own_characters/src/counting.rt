@@ -1,5 +1,6 @@
 //! How often each cluster of a page comes.
-ghost use Rattle.std.specs.Prelude.{◌≡◌, ◌||◌, ◌<◌, [], true, None, Some, IsTrue, length, nat_lt, slice_get, slice_set};
+ghost use Rattle.std.specs.Prelude.{◌≡◌, ◌+◌, ◌^◌, ◌||◌, ◌<◌, ◌≤◌, ℕ, [], true, None, Some, IsTrue, drop, length, nat_lt, slice_get, slice_set};
+ghost use Rattle.utf8_own_characters.specs.declared.cluster.Cluster.{Cluster as Letters};
 ghost use Rattle.utf8_own_characters.specs.Counting as specs;
 ghost use Rattle.utf8_own_characters.specs.Counting.{count_from, counted_within, is_counted, is_once, raised};
 ghost use Rattle.utf8_own_characters.specs.declared.counting.Count.{Count as Counted};
@@ -56,11 +57,13 @@ fn stands(counts: &[Count], place: usize, cluster: &Cluster) -> bool
     count.cluster.is_same(cluster)
 }
 
-/// The place of a cluster that is looked for everywhere.
-fn sought(counts: &[Count], cluster: &Cluster) -> Option<usize>
-    ensures { result ≡ count_from 0 counts.now cluster.now }
+/// The place of a cluster among counts of which the first has this place.
+#[inline(always)]
+fn sought_from(first: usize, counts: &[Count], cluster: &Cluster) -> Option<usize>
+    requires { first + length counts.now < 2 ^ 64 }
+    ensures { result ≡ count_from first counts.now cluster.now }
 {
-    let mut place = 0;
+    let mut place = first;
     for count in counts {
         if count.cluster.is_same(cluster) {
             return Some(place);
@@ -68,6 +71,52 @@ fn sought(counts: &[Count], cluster: &Cluster) -> Option<usize>
         place += 1;
     }
     None
+}
+
+/// Whether none of the first four counts is of this letter.
+#[inline(always)]
+fn four_differ(counts: &[Count], letter: char) -> bool
+    ensures none { result ≡ true → (k : ℕ) (c : Letters) → c.letter ≡ letter → count_from k counts.now c ≡ count_from (k + 4) (drop 4 counts.now) c }
+    ensures long { result ≡ true → 4 ≤ length counts.now }
+{
+    if counts.len() < 4 {
+        return false;
+    }
+    let first = at(counts, 0);
+    let second = at(counts, 1);
+    let third = at(counts, 2);
+    let fourth = at(counts, 3);
+    if first.cluster.letter == letter {
+        return false;
+    }
+    if second.cluster.letter == letter {
+        return false;
+    }
+    if third.cluster.letter == letter {
+        return false;
+    }
+    fourth.cluster.letter != letter
+}
+
+/// How many counts a cluster is not looked for among, since they are of other letters.
+#[inline(always)]
+fn passed(counts: &[Count], cluster: &Cluster) -> usize
+    ensures within { result ≤ length counts.now }
+    ensures place { count_from 0 counts.now cluster.now ≡ count_from result (drop result counts.now) cluster.now }
+{
+    let mut count = 0;
+    while four_differ(&counts[count..], cluster.letter) {
+        count += 4;
+    }
+    count
+}
+
+/// The place of a cluster that is looked for everywhere.
+fn sought(counts: &[Count], cluster: &Cluster) -> Option<usize>
+    ensures { result ≡ count_from 0 counts.now cluster.now }
+{
+    let first = passed(counts, cluster);
+    sought_from(first, &counts[first..], cluster)
 }
 
 /// The place of a cluster that does not stand where its first slot says.
