@@ -1,91 +1,28 @@
 -- How bytes that are shown pass on to another sink.
-use Rattle.std.proofs.Common.{◌≡◌, ℕ, ◌+◌, ◌<◌, List, [], ◌∷◌, ◌++◌, length, take, drop, Bool, true, false, Option, None, Some, Result, Ok, Err, IsErr, OnOk, refl, sym, ◌∙◌, ap, subst, append_assoc, append-nil, arith}
+use Rattle.std.proofs.Common.{◌≡◌, ℕ, ◌+◌, ◌-◌, ◌<◌, ◌≤◌, List, [], ◌∷◌, ◌++◌, length, take, drop, Bool, true, false, Option, None, Some, Result, Ok, Err, IsErr, OnOk, refl, sym, ◌∙◌, ap, subst, append_assoc, append-nil, arith}
+use Rattle.std.proofs.lemmas.Grind.{common_steps}
 use Rattle.std.proofs.Math.Logic.{∥∥₁_map}
 use Rattle.std.specs.Result.{is_err}
 use Rattle.std.specs.Io.KnownBytes.{Appends, Keeps}
-use Rattle.std.specs.Prelude.{slice_index}
 use Rattle.std.proofs.KnownBytes.{Appends-nil, Appends-trans}
-use Rattle.std.proofs.lemmas.List.{take-append-drop, take_more}
 use Rattle.nr_units.specs.Failures.{SinkFailures, next_count, put_counted}
 use Rattle.nr_units.specs.Sink.{AppendsPrefix}
 use Rattle.nr_units.specs.declared.source.Fault.{Fault}
 use Rattle.nr_units.proofs.Prefixes.{AppendsPrefix-append}
 use Rattle.document_stages.specs.Running.{Flushes, PrefixAtErr}
 use Rattle.utf8_converter.specs.Showing.{AddsPrefix, Sends}
-use Rattle.utf8_converter.proofs.Passing.{Flushes-then, AddsPrefix-more, AddsPrefix-of, AddsPrefix-then, Sends-kept, Sends-on, puts-failed, puts-went}
+use Rattle.utf8_converter.proofs.Passing.{AddsPrefix-more, AddsPrefix-of, AddsPrefix-then, Sends-kept, Sends-on, puts-failed, puts-went}
 use Rattle.utf8_own_characters.specs.Table.{Characters}
 use Rattle.utf8_own_sink.specs.declared.cells.Reader.{Reader}
-use Rattle.utf8_own_sink.specs.Reading.{Emitted, fed, first}
+use Rattle.utf8_own_sink.specs.Reading.{Emitted, Moves, fed, first}
 use Rattle.utf8_own_sink.specs.Showing.{Broke, Making, Reads, Stands, StandsOr, Takes}
 use Rattle.utf8_own_sink.proofs.Going.{fed-append_bytes, fed-append_reader}
 
 -- ---- bytes are taken
 
-pub Reads-none : (t : Characters) (a : Option (List ℕ)) (r s : Reader) (p left : List ℕ) → s ≡ r → left ≡ p → Reads t a a r s p left []
-Reads-none t a r s p left is same = record {
-  reader = is;
-  out = record { out = []; went_out = Appends-nil a; all = append-nil p ∙ sym same };
-}
-
-pub Reads-then : (t : Characters) (a b c : Option (List ℕ)) (r s u : Reader) (p q left xs ys : List ℕ) → Reads t a b r s p q xs → Reads t b c s u q left ys → Reads t a c r u p left (xs ++ ys)
-Reads-then t a b c r s u p q left xs ys f g =
-    let F = fed t r xs in
-    let here : fed t F.reader ys ≡ fed t s ys = ap (λ (x : Reader). fed t x ys) (sym f.reader) in
-    let bytes : (fed t r (xs ++ ys)).bytes ≡ F.bytes ++ (fed t s ys).bytes = fed-append_bytes t r xs ys ∙ ap (λ (x : Emitted). F.bytes ++ x.bytes) here in
-    let P : List ℕ → Type 0 = λ zs. Flushes a c zs left in
-    record {
-      reader = g.reader ∙ ap (λ (x : Emitted). x.reader) (sym here) ∙ sym (fed-append_reader t r xs ys);
-      out = subst P (append_assoc p F.bytes (fed t s ys).bytes ∙ ap (λ (zs : List ℕ). p ++ zs) (sym bytes)) (Flushes-then a b c (p ++ F.bytes) q left (fed t s ys).bytes f.out g.out);
-    }
-
--- a prefix of what these bytes come to, after bytes that were read
-pub Prefix-then : (t : Characters) (a b c : Option (List ℕ)) (r s : Reader) (p q xs ys : List ℕ) → Reads t a b r s p q xs → AppendsPrefix b c (q ++ (fed t s ys).bytes) → AppendsPrefix a c (p ++ (fed t r (xs ++ ys)).bytes)
-Prefix-then t a b c r s p q xs ys f prefix =
-    let F = fed t r xs in
-    let here : fed t F.reader ys ≡ fed t s ys = ap (λ (x : Reader). fed t x ys) (sym f.reader) in
-    let bytes : (fed t r (xs ++ ys)).bytes ≡ F.bytes ++ (fed t s ys).bytes = fed-append_bytes t r xs ys ∙ ap (λ (x : Emitted). F.bytes ++ x.bytes) here in
-    let P : List ℕ → Type 0 = λ zs. AppendsPrefix a c zs in
-    subst P (append_assoc p F.bytes (fed t s ys).bytes ∙ ap (λ (zs : List ℕ). p ++ zs) (sym bytes)) (AddsPrefix-then a b c (p ++ F.bytes) q (fed t s ys).bytes f.out prefix)
-
--- one byte: room is made, and what it comes to is put after what waits
-pub Reads-one : (t : Characters) (a b : Option (List ℕ)) (r s : Reader) (p q left : List ℕ) (byte : ℕ) → Flushes a b p q → s ≡ (fed t r (byte ∷ [])).reader
-    → left ≡ q ++ (fed t r (byte ∷ [])).bytes → Reads t a b r s p left (byte ∷ [])
-Reads-one t a b r s p q left byte f is put =
-    let more = (fed t r (byte ∷ [])).bytes in
-    record {
-      reader = is;
-      out = record {
-        out = f.out;
-        went_out = f.went_out;
-        all = ap (λ (zs : List ℕ). zs ++ more) f.all ∙ append_assoc f.out q more ∙ ap (λ (zs : List ℕ). f.out ++ zs) (sym put);
-      };
-    }
-
 pub Takes-err : (t : Characters) (x : Result (Unit {0}) Fault) (a b : Option (List ℕ)) (r s : Reader) (p left bytes : List ℕ) → IsErr x → AppendsPrefix a b (p ++ (fed t r bytes).bytes) → Takes t a b r s p left bytes x
 Takes-err t (Ok n) a b r s p left bytes e prefix = absurd (let never : false ≡ true = e in cc)
 Takes-err t (Err f) a b r s p left bytes e prefix = prefix
-
-pub Takes-room : (t : Characters) (x y : Result (Unit {0}) Fault) (a b : Option (List ℕ)) (r s : Reader) (p left bytes : List ℕ) → IsErr x → IsErr y → PrefixAtErr y a b p → Takes t a b r s p left bytes x
-Takes-room t x (Ok n) a b r s p left bytes e is prefix = absurd (let never : false ≡ true = is in cc)
-Takes-room t x (Err f) a b r s p left bytes e is prefix = Takes-err t x a b r s p left bytes e (AppendsPrefix-append a b p (fed t r bytes).bytes prefix)
-
--- one more of these bytes
-pub Reads-more : (t : Characters) (a b c : Option (List ℕ)) (r s u : Reader) (p q left bytes : List ℕ) (i byte : ℕ) → i < length bytes → slice_index bytes i ≡ byte
-    → Reads t a b r s p q (take i bytes) → Reads t b c s u q left (byte ∷ []) → Reads t a c r u p left (take (i + 1) bytes)
-Reads-more t a b c r s u p q left bytes i byte l is f g =
-    let P : List ℕ → Type 0 = λ zs. Reads t a c r u p left zs in
-    subst P (ap (λ (k : ℕ). take i bytes ++ k ∷ []) (sym is) ∙ sym (take_more bytes i 0 l)) (Reads-then t a b c r s u p q left (take i bytes) (byte ∷ []) f g)
-
-pub Prefix-more : (t : Characters) (a b c : Option (List ℕ)) (r s : Reader) (p q bytes : List ℕ) (i byte : ℕ) → i < length bytes → slice_index bytes i ≡ byte
-    → Reads t a b r s p q (take i bytes) → AppendsPrefix b c (q ++ (fed t s (byte ∷ [])).bytes) → AppendsPrefix a c (p ++ (fed t r bytes).bytes)
-Prefix-more t a b c r s p q bytes i byte l is f prefix =
-    let P : List ℕ → Type 0 = λ zs. AppendsPrefix a c (p ++ (fed t r zs).bytes) in
-    let one : AppendsPrefix a c (p ++ (fed t r (take (i + 1) bytes)).bytes) =
-    subst P (ap (λ (k : ℕ). take i bytes ++ k ∷ []) (sym is) ∙ sym (take_more bytes i 0 l)) (Prefix-then t a b c r s p q (take i bytes) (byte ∷ []) f prefix) in
-    let F = fed t r (take (i + 1) bytes) in
-    let rest = (fed t F.reader (drop (i + 1) bytes)).bytes in
-    let whole : F.bytes ++ rest ≡ (fed t r bytes).bytes = sym (fed-append_bytes t r (take (i + 1) bytes) (drop (i + 1) bytes)) ∙ ap (λ (zs : List ℕ). (fed t r zs).bytes) (take-append-drop (i + 1) bytes) in
-    subst (λ (zs : List ℕ). AppendsPrefix a c zs) (append_assoc p F.bytes rest ∙ ap (λ (zs : List ℕ). p ++ zs) whole) (AppendsPrefix-append a c (p ++ F.bytes) rest one)
 
 -- what waits goes out
 pub Waits-out : (t : Characters) (x : Result (Unit {0}) Fault) (a b : Option (List ℕ)) (r : Reader) (p left : List ℕ) → OnOk x (Appends a b p) → PrefixAtErr x a b p → OnOk x (left ≡ []) → Takes t a b r r p left [] x
@@ -217,3 +154,38 @@ pub call-flushed : (z : Bool) (m : Making) (came : List ℕ) (a b c : Option (Li
     → ∥ StandsOr z m came a f.puts r p ∥₁ → is_err x ≡ false → Takes m.table a b r s p left [] x → g ≡ put_counted f x → Keeps b c → h.puts ≡ g.puts → ∥ StandsOr z m came c h.puts s left ∥₁
 call-flushed z m came a b c f g h r s p left x e st went takes failed kept same =
     kept-on z m came b c g.puts h.puts s left e (call-on z m came came [] a b f g r s p left x e st (sym (append-nil came)) went takes failed) kept same
+
+-- ---- what comes of bytes that are read in parts
+
+Flushes-between : (a b c : Option (List ℕ)) (x q left y : List ℕ) → Flushes a b x (q ++ y) → Flushes b c q left → Flushes a c x (left ++ y)
+Flushes-between a b c x q left y f h = record {
+  out = f.out ++ h.out;
+  went_out = Appends-trans a b c f.out h.out f.went_out h.went_out;
+  all = f.all ∙ ap (λ (zs : List ℕ). f.out ++ zs) (ap (λ (zs : List ℕ). zs ++ y) h.all ∙ append_assoc h.out left y) ∙ sym (append_assoc f.out h.out (left ++ y));
+}
+
+pub Flushes-moved : (t : Characters) (a b c : Option (List ℕ)) (s u : Reader) (x q w left bytes rest : List ℕ) → Flushes a b x (q ++ (fed t s bytes).bytes) → Flushes b c q w → Moves t s u w left bytes rest
+    → Flushes a c x (left ++ (fed t u rest).bytes)
+Flushes-moved t a b c s u x q w left bytes rest f h moves =
+    subst (λ (zs : List ℕ). Flushes a c x zs) (sym moves.text) (Flushes-between a b c x q w (fed t s bytes).bytes f h)
+
+pub Prefix-between : (a b c : Option (List ℕ)) (x q y : List ℕ) → Flushes a b x (q ++ y) → AppendsPrefix b c q → AppendsPrefix a c x
+Prefix-between a b c x q y f prefix =
+    subst (λ (zs : List ℕ). AppendsPrefix a c zs) (append-nil x)
+    (AddsPrefix-then a b c x (q ++ y) [] f (subst (λ (zs : List ℕ). AppendsPrefix b c zs) (sym (append-nil (q ++ y))) (AppendsPrefix-append b c q y prefix)))
+
+pub Reads-all : (t : Characters) (a b : Option (List ℕ)) (r s : Reader) (p left bytes rest : List ℕ) → rest ≡ [] → (fed t s rest).reader ≡ (fed t r bytes).reader → Flushes a b (p ++ (fed t r bytes).bytes) (left ++ (fed t s rest).bytes)
+    → Reads t a b r s p left bytes
+Reads-all t a b r s p left bytes rest none is out =
+    let F = fed t r bytes in
+    record {
+      reader = sym (ap (λ (zs : List ℕ). (fed t s zs).reader) none) ∙ is;
+      out = subst (λ (zs : List ℕ). Flushes a b (p ++ F.bytes) zs) (ap (λ (zs : List ℕ). left ++ (fed t s zs).bytes) none ∙ append-nil left) out;
+    }
+
+-- the bytes from a place on
+pub rest-whole : (at : ℕ) (xs : List ℕ) → take (length xs - at) (drop at xs) ≡ drop at xs
+rest-whole at xs = grind (arith, common_steps)
+
+pub within-past : (at n : ℕ) (xs : List ℕ) → at ≤ length xs → n ≤ length (take (length xs - at) (drop at xs)) → at + n ≤ length xs
+within-past at n xs l m = grind (arith, common_steps)

@@ -18,7 +18,7 @@ use Rattle.utf8_own_sink.specs.declared.cells.Reader.{Reader}
 use Rattle.utf8_own_sink.specs.declared.letters.Way.{Way}
 use Rattle.utf8_own_sink.specs.declared.letters.Way.TheVariants.{Backspaces, Escapes}
 
-and_first : (x y : Bool) → x && y ≡ true → x ≡ true
+pub and_first : (x y : Bool) → x && y ≡ true → x ≡ true
 and_first true y p = refl
 and_first false y p = p
 
@@ -37,7 +37,7 @@ seen b e = grind (arith, nat_tests)
 low_test : (b : ℕ) → is_as_is b ≡ true → nat_lt b 128 ≡ true
 low_test b e = grind (arith, nat_tests)
 
-no_marks : (xs : List ℕ) → xs ++ [] ++ [] ++ [] ≡ xs
+pub no_marks : (xs : List ℕ) → xs ++ [] ++ [] ++ [] ≡ xs
 no_marks [] = refl
 no_marks (x ∷ xs) = ap (λ (zs : List ℕ). x ∷ zs) (no_marks xs)
 
@@ -55,7 +55,7 @@ either : (x : Bool) → (if x then Plain else Plain) ≡ Plain
 either true = refl
 either false = refl
 
-stays_plain : (b : ℕ) → look_of (single b) Plain ≡ Plain
+pub stays_plain : (b : ℕ) → look_of (single b) Plain ≡ Plain
 stays_plain b = either (nat_le b 32)
 
 no_lead : (lead : Option Cell) → not (is_some lead) ≡ true → lead ≡ None
@@ -70,7 +70,7 @@ drawn_by (Escapes Plain) b look p e is l = rw (is, e) (text b l)
 drawn_by (Escapes Under) b look p e is l = absurd (let no : false ≡ true = p in cc)
 drawn_by (Escapes Bold) b look p e is l = absurd (let no : false ≡ true = p in cc)
 
-way_by : (w : Way) (b : ℕ) (look : Look) → is_plain w ≡ true → look_of (single b) look ≡ Plain → is_shown (single b) ≡ true → way_past w (letter (single b) look) ≡ w
+pub way_by : (w : Way) (b : ℕ) (look : Look) → is_plain w ≡ true → look_of (single b) look ≡ Plain → is_shown (single b) ≡ true → way_past w (letter (single b) look) ≡ w
 way_by Backspaces b look p e is = rw is refl
 way_by (Escapes Plain) b look p e is = rw (is, e) refl
 way_by (Escapes Under) b look p e is = absurd (let no : false ≡ true = p in cc)

@@ -1,11 +1,12 @@
 -- What goes out byte by byte.
 use Prim.Native.Char.{code}
-use Rattle.std.specs.Prelude.{◌≡◌, ◌≢◌, ◌<◌, ℕ, List, [], ◌∷◌, ◌++◌, Bool, true, false, not, ◌==◌, ◌&&◌, ◌||◌}
+use Rattle.std.specs.Prelude.{◌≡◌, ◌≢◌, ◌<◌, ◌≤◌, ℕ, List, [], ◌∷◌, ◌++◌, Bool, true, false, not, ◌==◌, ◌&&◌, ◌||◌}
 use Rattle.std.specs.Prelude.{nat_le, nat_lt, is_some, if◌then◌else◌, Option, None, Some}
 use Rattle.nr_vectors.specs.declared.cell.Look.{Look}
 use Rattle.nr_vectors.specs.declared.cell.Look.TheVariants.{Plain}
 use Rattle.utf8_converter.specs.Cells.{is_same}
 use Rattle.utf8_own_characters.specs.Cluster.{single}
+use Rattle.utf8_own_characters.specs.Reading.{read}
 use Rattle.utf8_own_characters.specs.Table.{Characters, is_lead}
 use Rattle.utf8_own_characters.specs.declared.cluster.Cluster.{Cluster}
 use Rattle.utf8_own_characters.specs.declared.reading.Read.{Read}
@@ -140,3 +141,43 @@ rest t r bytes = printed r.way (letters t r.lead (cells r.half r.before bytes))
 abbrev pub decoding : Characters → Reader → Bool → List ℕ → List ℕ
 decoding t r true bytes = rest t r bytes
 decoding t r false bytes = (fed t r bytes).bytes
+
+-- ---- several bytes at once
+
+-- nothing is half read, and the cell before is plain
+abbrev pub resting : Way → Reader
+resting way = record { half = Nothing; before = Plain; lead = None; way = way }
+
+pub record IsResting (r : Reader) : Type 0 where
+  pub is : r ≡ resting r.way
+  pub way : is_plain r.way ≡ true
+
+-- Bytes came where the reader stood at r and some text waited, and some of them were read: it stands at s, and what is left and
+-- what the rest comes to is what waited and what all come to.
+pub record Moves (t : Characters) (r s : Reader) (waited left bytes rest : List ℕ) : Type 0 where
+  pub end : (fed t s rest).reader ≡ (fed t r bytes).reader
+  pub text : left ++ (fed t s rest).bytes ≡ waited ++ (fed t r bytes).bytes
+
+-- a letter was read and nothing else comes: it is neither a blank nor a control character
+pub record IsLetterRead (read : Read) (letter : ℕ) : Type 0 where
+  pub blanks : read.blanks ≡ 0
+  pub held : read.held ≡ None
+  pub is_read : read.cluster ≡ Some (single letter)
+  pub beyond_blank : 32 < letter
+  pub no_delete : letter ≢ 127
+
+-- two bytes are a lead and a trail of a letter
+pub record IsPair (t : Characters) (lead trail letter : ℕ) : Type 0 where
+  pub is_lead : is_lead t lead ≡ true
+  pub high : 128 ≤ lead
+  pub high_trail : 128 ≤ trail
+  pub reads : IsLetterRead (read t (Some lead) trail) letter
+
+-- a byte alone is a letter
+pub record IsNarrow (t : Characters) (byte letter : ℕ) : Type 0 where
+  pub high : 128 ≤ byte
+  pub reads : IsLetterRead (read t None byte) letter
+
+-- what is half read goes out, and nothing is
+abbrev pub let_go : Characters → ℕ → Reader → Reader
+let_go t a r = with_half Nothing (cell_after t (plain a) r)

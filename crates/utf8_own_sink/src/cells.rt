@@ -1,10 +1,11 @@
 //! The bytes of cells are read, one after the other, and what they show goes out.
-ghost use Rattle.std.specs.Prelude.{◌≡◌, ◌+◌, ◌≤◌, [], ◌∷◌, ◌++◌, length, IfSome};
+ghost use Rattle.std.specs.Prelude.{◌≡◌, ◌+◌, ◌*◌, ◌<◌, ◌≤◌, [], ◌∷◌, ◌++◌, drop, length, IfSome, IsTrue};
 ghost use Rattle.utf8_own_sink.specs.Cells as specs;
-ghost use Rattle.utf8_own_sink.specs.Reading.{IsBare, IsBareLetter, after, begun_after, begun_said, cell_after, cell_said, drawn_all, ended, first, goes_plain, holds, next_after, next_said, passes, released, released_said, said, ways_past, with_half};
+ghost use Rattle.utf8_own_sink.specs.Reading.{IsBare, IsBareLetter, IsResting, Moves, after, begun_after, begun_said, cell_after, cell_said, drawn_all, ended, first, goes_plain, holds, let_go, next_after, next_said, passes, released, released_said, said, ways_past, with_half};
 ghost use Rattle.utf8_own_sink.specs.declared.cells.Half.TheVariants.{Nothing};
 
 use super::letters::{Way, put_character};
+use super::runs::put_run;
 use nr_vectors::cell::Look;
 use nr_vectors::slice_vec::SliceVec;
 use utf8_own_characters::{Cluster, OwnTable, Read};
@@ -200,7 +201,7 @@ fn put_read(way: Way, lead: Option<Cell>, look: Look, read: Read, out: &mut Slic
 
 /// The letter of a cluster without marks that is neither a blank nor a control character.
 #[inline(always)]
-fn bare_letter(cluster: &Cluster) -> Option<char>
+pub(crate) fn bare_letter(cluster: &Cluster) -> Option<char>
     ensures { IfSome result (λ letter. IsBareLetter cluster.now letter) }
 {
     let code = u32::from(cluster.letter);
@@ -356,6 +357,100 @@ impl Reader {
             Half::Backspaced(held) if strikes(held, byte) => self.strike(held, byte, table, out),
             Half::Byte(held) | Half::Backspaced(held) => self.go_on(held, byte, table, out),
         }
+    }
+
+    /// Whether nothing is half read and what is plain goes out as it is.
+    #[inline(always)]
+    fn is_ready(&self) -> bool
+        ensures { IsTrue result → IsResting self.now }
+    {
+        matches!(self.half, Half::Nothing)
+            && matches!(self.before, Look::Plain)
+            && self.lead.is_none()
+            && self.way.is_plain()
+    }
+
+    /// What is half read goes out, as nothing is struck over it: at most 99 bytes.
+    #[inline(always)]
+    fn let_go(&mut self, held: u8, table: &OwnTable<'_>, out: &mut SliceVec<'_, u8>)
+        requires { length out.old.items + 99 ≤ out.old.capacity }
+        ensures items { out.new.items ≡ out.old.items ++ cell_said table.now (specs.plain held) self.old }
+        ensures few { length out.new.items ≤ length out.old.items + 99 }
+        ensures room { out.new.capacity ≡ out.old.capacity }
+        ensures reader { self.new ≡ let_go table.now held self.old }
+    {
+        self.put_cell(plain(held), table, out);
+        self.half = Half::Nothing;
+    }
+
+    /// Bytes come of which at least one is read: tells how many.
+    pub(crate) fn read_some(
+        &mut self,
+        bytes: &[u8],
+        table: &OwnTable<'_>,
+        out: &mut SliceVec<'_, u8>,
+    ) -> usize
+        requires some { 0 < length bytes.now }
+        requires room { length out.old.items + 256 ≤ out.old.capacity }
+        ensures moves { Moves table.now self.old self.new out.old.items out.new.items bytes.now (drop result bytes.now) }
+        ensures some { 1 ≤ result }
+        ensures within { result ≤ length bytes.now }
+        ensures room { out.new.capacity ≡ out.old.capacity }
+    {
+        let byte = bytes[0];
+        match self.half {
+            Half::Nothing => self.read_fresh(bytes, table, out),
+            Half::Byte(held) if byte == b'\x08' => {
+                self.half = Half::Backspaced(held);
+                1
+            }
+            Half::Backspaced(held) if strikes(held, byte) => {
+                self.strike(held, byte, table, out);
+                1
+            }
+            Half::Byte(held) | Half::Backspaced(held) => {
+                self.let_go(held, table, out);
+                self.read_fresh(bytes, table, out)
+            }
+        }
+    }
+
+    /// Puts what is plain at the start of these bytes, where nothing is half read, and tells how many they are.
+    #[inline(always)]
+    fn put_plain(&self, bytes: &[u8], table: &OwnTable<'_>, out: &mut SliceVec<'_, u8>) -> usize
+        ensures moves { Moves table.now self.now self.now out.old.items out.new.items bytes.now (drop result bytes.now) }
+        ensures within { result ≤ length bytes.now }
+        ensures few { length out.new.items ≤ length out.old.items + 4 * result }
+        ensures room { out.new.capacity ≡ out.old.capacity }
+    {
+        if !self.is_ready() {
+            return 0;
+        }
+        put_run(bytes, table, out)
+    }
+
+    /// Bytes come where nothing of a cell is read: tells how many of them are read, one at least.
+    #[inline]
+    fn read_fresh(
+        &mut self,
+        bytes: &[u8],
+        table: &OwnTable<'_>,
+        out: &mut SliceVec<'_, u8>,
+    ) -> usize
+        requires some { 0 < length bytes.now }
+        requires fresh { self.old.half ≡ Nothing }
+        requires room { length out.old.items + 99 ≤ out.old.capacity }
+        ensures moves { Moves table.now self.old self.new out.old.items out.new.items bytes.now (drop result bytes.now) }
+        ensures some { 1 ≤ result }
+        ensures within { result ≤ length bytes.now }
+        ensures room { out.new.capacity ≡ out.old.capacity }
+    {
+        let len = self.put_plain(bytes, table, out);
+        if len > 0 {
+            return len;
+        }
+        self.begin(bytes[0], table, out);
+        1
     }
 
     /// What is half read of a cell goes out: at most 99 bytes.

@@ -63,18 +63,6 @@ impl<'a> PendingText<'a> {
         }
     }
 
-    /// A byte is read, and what it comes to goes out or waits.
-    #[inline]
-    fn take<W: Sink>(&mut self, byte: u8, table: &OwnTable<'_>, output: &mut W) -> Result<(), Fault>
-        ensures takes { specs.Takes table.now (W.held output.old) (W.held output.new) self.old.reader self.new.reader
-            self.old.out.items self.new.out.items (byte ∷ []) result }
-        ensures failures { W.failures output.new ≡ put_counted (W.failures output.old) result }
-    {
-        make_room(&mut self.out, output)?;
-        self.reader.read(byte, table, &mut self.out);
-        Ok(())
-    }
-
     /// All of these bytes are read.
     pub(crate) fn take_all<W: Sink>(
         &mut self,
@@ -86,8 +74,10 @@ impl<'a> PendingText<'a> {
             self.old.out.items self.new.out.items bytes.now result }
         ensures failures { W.failures output.new ≡ put_counted (W.failures output.old) result }
     {
-        for byte in bytes {
-            self.take(*byte, table, output)?;
+        let mut at = 0;
+        while at < bytes.len() {
+            make_room(&mut self.out, output)?;
+            at += self.reader.read_some(&bytes[at..], table, &mut self.out);
         }
         Ok(())
     }

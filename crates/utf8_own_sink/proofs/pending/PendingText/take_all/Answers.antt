@@ -1,46 +1,46 @@
-use Rattle.std.proofs.Common.{List, refl, subst, ◌∙◌, arith}
-use Rattle.std.specs.Prelude.{slice_index}
-use Rattle.std.proofs.lemmas.List.{take_all}
+use Rattle.std.proofs.Common.{◌≡◌, ◌++◌, ◌≤◌, ◌+◌, List, ℕ, arith, drop, length, refl, sym, ◌∙◌, subst}
 use Rattle.utf8_converter.proofs.Passing.{counted-err}
-use Rattle.utf8_own_sink.specs.Showing.{Reads}
-use Rattle.utf8_own_sink.proofs.Passing.{Prefix-more, Reads-more, Reads-none, Takes-err}
+use Rattle.document_stages.specs.Running.{Flushes}
+use Rattle.utf8_own_sink.proofs.Passing.{Flushes-moved, Prefix-between, Reads-all, Takes-err, rest-whole, within-past}
+use Rattle.document_stages.proofs.Steps.{drop_drop}
+use Rattle.utf8_own_sink.specs.Reading.{Moves, fed}
 use Rattle.utf8_own_sink.proofs.pending.PendingText.take_all.Goals as goal
 
-pub loop-byte-init : goal.loop-byte-init
-loop-byte-init g c = record {
-  takes = Reads-none c.args.table.now (g.W.Sink.held c.args.output.now) c.args.self.now.reader c.args.self.now.reader c.args.self.now.out.items c.args.self.now.out.items refl refl;
-  failures = refl;
-}
-
-pub loop-byte-preserved : goal.loop-byte-preserved
-loop-byte-preserved g c =
-    let i = c.loop-byte.byte-index in
+pub loop-at-preserved : goal.loop-at-preserved
+loop-at-preserved g c =
+    let t = c.args.table.now in
     let bytes = c.args.bytes.now in
+    let s = c.loop-at.self.reader in
+    let u = c.read_some-at.new.self in
+    let n = c.read_some-at.result in
+    let at = c.loop-at.at in
+    let moves = subst (λ (zs : List ℕ). Moves t s u c.make_room.new.out.items c.read_some-at.new.out.items zs (drop n zs)) (rest-whole at bytes) c.read_some-at.ensures.moves in
+    let more = drop_drop at n bytes in
+    let a = g.W.Sink.held c.args.output.now in
+    let b = g.W.Sink.held c.make_room.new.output in
+    let x = c.args.self.now.out.items ++ (fed t c.args.self.now.reader bytes).bytes in
     record {
-      takes = Reads-more c.args.table.now (g.W.Sink.held c.args.output.now) (g.W.Sink.held c.loop-byte.output) (g.W.Sink.held c.take.new.output) c.args.self.now.reader c.loop-byte.self.reader c.take.new.self.reader
-          c.args.self.now.out.items c.loop-byte.self.out.items c.take.new.self.out.items bytes i (slice_index bytes i) (omega (arith, c.loop-byte-test.true)) refl c.loop-byte.invariant.takes c.in_ok-take.ensures.takes;
-      failures = c.in_ok-take.ensures.failures ∙ c.loop-byte.invariant.failures;
+      within = within-past at n bytes c.loop-at.invariant.within c.read_some-at.ensures.within;
+      reader = subst (λ (zs : List ℕ). (fed t u zs).reader ≡ (fed t c.args.self.now.reader bytes).reader) more (moves.end ∙ c.loop-at.invariant.reader);
+      out = subst (λ (zs : List ℕ). Flushes a b x (c.read_some-at.new.out.items ++ (fed t u zs).bytes)) more
+          (Flushes-moved t a (g.W.Sink.held c.loop-at.output) b s u x c.loop-at.self.out.items c.make_room.new.out.items c.read_some-at.new.out.items (drop at bytes)
+          (drop n (drop at bytes)) c.loop-at.invariant.out c.in_ok-make_room.ensures.ok moves);
+      failures = c.in_ok-make_room.ensures.failures ∙ c.loop-at.invariant.failures;
     }
 
-pub returns-in_err-take-clause-takes : goal.returns-in_err-take-clause-takes
-returns-in_err-take-clause-takes g c =
-    let i = c.loop-byte.byte-index in
+pub returns-in_err-make_room-clause-takes : goal.returns-in_err-make_room-clause-takes
+returns-in_err-make_room-clause-takes g c =
+    let t = c.args.table.now in
     let bytes = c.args.bytes.now in
     let a = g.W.Sink.held c.args.output.now in
-    let d = g.W.Sink.held c.take.new.output in
+    let d = g.W.Sink.held c.make_room.new.output in
     let r = c.args.self.now.reader in
     let p = c.args.self.now.out.items in
-    Takes-err c.args.table.now c.from_residual.result a d r c.take.new.self.reader p c.take.new.self.out.items bytes c.from_residual.ensures.0
-    (Prefix-more c.args.table.now a (g.W.Sink.held c.loop-byte.output) d r c.loop-byte.self.reader p c.loop-byte.self.out.items bytes i (slice_index bytes i) (omega (arith, c.loop-byte-test.true)) refl
-    c.loop-byte.invariant.takes c.in_err-take.ensures.takes)
+    let s = c.loop-at.self.reader in
+    Takes-err t c.from_residual.result a d r s p c.make_room.new.out.items bytes c.from_residual.ensures.0
+    (Prefix-between a (g.W.Sink.held c.loop-at.output) d (p ++ (fed t r bytes).bytes) c.loop-at.self.out.items (fed t s (drop c.loop-at.at bytes)).bytes c.loop-at.invariant.out c.in_err-make_room.ensures.err)
 
-pub returns-in_err-take-clause-failures : goal.returns-in_err-take-clause-failures
-returns-in_err-take-clause-failures g c =
-    counted-err c.from_residual.result (g.W.Sink.failures c.args.output.now) (g.W.Sink.failures c.loop-byte.output) (g.W.Sink.failures c.take.new.output) c.from_residual.ensures.0
-    c.loop-byte.invariant.failures c.in_err-take.ensures.failures
-
-pub returns-clause-takes : goal.returns-clause-takes
-returns-clause-takes g c =
-    let bytes = c.args.bytes.now in
-    subst (λ (zs : List _). Reads c.args.table.now (g.W.Sink.held c.args.output.now) (g.W.Sink.held c.loop-byte.output) c.args.self.now.reader c.loop-byte.self.reader c.args.self.now.out.items c.loop-byte.self.out.items zs)
-    (take_all c.loop-byte.byte-index bytes c.loop-byte-test.false) c.loop-byte.invariant.takes
+pub returns-in_err-make_room-clause-failures : goal.returns-in_err-make_room-clause-failures
+returns-in_err-make_room-clause-failures g c =
+    counted-err c.from_residual.result (g.W.Sink.failures c.args.output.now) (g.W.Sink.failures c.loop-at.output) (g.W.Sink.failures c.make_room.new.output) c.from_residual.ensures.0
+    c.loop-at.invariant.failures c.in_err-make_room.ensures.failures
