@@ -1,7 +1,7 @@
 -- What the name of a control line makes of the rest of it.
 use Prim.Native.Char.{code}
 use Rattle.std.specs.Prelude.{ℕ, ◌-◌, List, [], ◌∷◌, ◌++◌, length, take, drop, Bool, true, false, not, ◌==◌}
-use Rattle.std.specs.Prelude.{◌&&◌, if◌then◌else◌, Option, None, Some, is_some, codes, slice_index}
+use Rattle.std.specs.Prelude.{◌&&◌, ◌||◌, if◌then◌else◌, Option, None, Some, is_some, codes, slice_index}
 use Rattle.std.specs.Str.{bytes_eq}
 use Rattle.nr_units.specs.Name.{is_full}
 use Rattle.preconv_characters.specs.declared.said.Said.{Said}
@@ -79,15 +79,21 @@ opened name =
     then definition_alone (opened_by (take 2 name)) else
     if bytes_eq name (codes "nop") then Nop else opened_by name
 
--- How a name goes out before this byte: that of a definition without its third byte, and that of a condition
--- with a blank before an escape. `.nop` is a condition that holds.
+-- requests that take no words
+abbrev pub is_alone : List ℕ → Bool
+is_alone name = bytes_eq name (codes "nf") || bytes_eq name (codes "fi") || bytes_eq name (codes "br")
+
+-- with a blank before an escape
 abbrev pub apart : List ℕ → ℕ → List ℕ
 apart name b = if (b == code "\\") && not (is_full name) then name ++ code " " ∷ [] else name
 
+-- How a name goes out before this byte: that of a definition without its third byte, and that of a condition,
+-- or of a request that takes no words, with a blank before an escape. `.nop` is a condition that holds.
 abbrev pub said_name : Opens → List ℕ → ℕ → Said
 said_name Definition name b = Kept (if length name == 3 then take 2 name else name)
 said_name Condition name b = Kept (apart name b)
 said_name Else name b = Kept (apart name b)
+said_name Rest name b = Kept (if is_alone name then apart name b else name)
 said_name Nop name b = Kept (codes "if 1 ")
 said_name opens name b = Kept name
 

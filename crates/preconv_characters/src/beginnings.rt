@@ -2,7 +2,7 @@
 ghost use Rattle.std.specs.Prelude.{◌≡◌, ◌≤◌, ℕ};
 ghost use Rattle.preconv_characters.specs.declared.beginnings.TheConstants.{OPENING};
 ghost use Rattle.preconv_characters.specs.Glyphs.{looked_up};
-ghost use Rattle.preconv_characters.specs.Beginnings.{entry, goes_out, group, group_of, is_known, is_roman, known_entry, opened, opened_by, opening_entry, said_name};
+ghost use Rattle.preconv_characters.specs.Beginnings.{apart, entry, goes_out, group, group_of, is_alone, is_known, is_roman, known_entry, opened, opened_by, opening_entry, said_name};
 
 use super::glyphs::looked_up;
 use super::said::Said;
@@ -335,8 +335,26 @@ pub fn opened(name: &[u8]) -> Opens
     opened_by(name)
 }
 
-/// How a name goes out before this byte: that of a definition without its third byte, and that of a
-/// condition with a blank before an escape. `.nop` is a condition that holds.
+/// Whether this is a request that takes no words.
+fn is_alone(name: &[u8]) -> bool
+    ensures { result ≡ is_alone name.now }
+{
+    name == b"nf".as_slice() || name == b"fi".as_slice() || name == b"br".as_slice()
+}
+
+/// The name with a blank before an escape.
+fn apart(name: Name, byte: u8) -> Name
+    ensures { result ≡ apart name byte }
+{
+    let mut apart = name;
+    if byte == b'\\' && !name.is_full() {
+        apart.push(b' ');
+    }
+    apart
+}
+
+/// How a name goes out before this byte: that of a definition without its third byte, and that of a condition, or of a request
+/// that takes no words, with a blank before an escape. `.nop` is a condition that holds.
 pub fn said_name(opens: Opens, name: Name, byte: u8) -> Said
     ensures { result ≡ said_name opens name byte }
 {
@@ -345,11 +363,8 @@ pub fn said_name(opens: Opens, name: Name, byte: u8) -> Said
             let first = Name::of(&name.as_bytes()[..2]);
             Said::Kept(first)
         }
-        Opens::Condition | Opens::Else if byte == b'\\' && !name.is_full() => {
-            let mut apart = name;
-            apart.push(b' ');
-            Said::Kept(apart)
-        }
+        Opens::Condition | Opens::Else => Said::Kept(apart(name, byte)),
+        Opens::Rest if is_alone(name.as_bytes()) => Said::Kept(apart(name, byte)),
         Opens::Nop => Said::Kept(Name::of(b"if 1 ")),
         _ => Said::Kept(name),
     }

@@ -15,7 +15,7 @@ use Rattle.preconv_lines.specs.declared.half.Coming.TheVariants as comings
 use Rattle.preconv_converter.specs.declared.reader.Reader.{Reader}
 use Rattle.preconv_converter.specs.declared.reader.Pending.TheVariants.{Nothing}
 use Rattle.preconv_lines.specs.Half.{Offered, taken, is_plain, is_open}
-use Rattle.preconv_characters.specs.Beginnings.{opened, said_name, goes_out}
+use Rattle.preconv_characters.specs.Beginnings.{opened, said_name, goes_out, apart, is_alone}
 use Rattle.preconv_characters.specs.Saying.{all_sent, bytes_of}
 use Rattle.preconv_lines.specs.Escapes.{in_escape}
 use Rattle.preconv_lines.specs.Lines.{ends_name, line_of, manual_by, opening, named_line, in_line}
@@ -47,7 +47,12 @@ name_sent e (suc n) (b ∷ bs) l =
     ap (λ (x : ℕ). x ∷ all_sent e (take n bs)) (sent_is e b (ascii-goes e b (is_ascii b parts.0)))
     ∙ ap (λ (xs : List ℕ). b ∷ xs) (name_sent e n bs parts.1)
 
--- before a blank or a newline, by what it opens
+-- before a blank or a newline it gets no blank
+pub no_blank : (x : Bool) (name : List ℕ) (b : ℕ) → (b == code "\\") ≡ false → (if x then apart name b else name) ≡ name
+no_blank true name b back = ap (λ (y : Bool). if y && not (is_full name) then name ++ code " " ∷ [] else name) back
+no_blank false name b back = refl
+
+-- by what it opens, before one of these
 name_said : (o : Opens) (e : Target) (name : List ℕ) (b : ℕ) → (b == code "\\") ≡ false → goes_out o (length name) ≡ true → all_sent e name ≡ name
     → bytes_of e (said_name o name b) ≡ name
 name_said opens.Definition e name b back p is =
@@ -56,6 +61,7 @@ name_said opens.Condition e name b back p is = absurd (let no : false ≡ true =
 name_said opens.Else e name b back p is = absurd (let no : false ≡ true = p in cc)
 name_said opens.Nop e name b back p is = absurd (let no : false ≡ true = p in cc)
 name_said opens.Ignored e name b back p is = absurd (let no : false ≡ true = p in cc)
+name_said opens.Rest e name b back p is = ap (all_sent e) (no_blank (is_alone name) name b back) ∙ is
 name_said o e name b back p is = is
 
 -- ---- the line then

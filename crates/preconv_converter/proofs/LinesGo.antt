@@ -21,7 +21,7 @@ use Rattle.preconv_lines.specs.Half.{taken, left}
 use Rattle.preconv_characters.specs.Marks.{mark_of}
 use Rattle.preconv_lines.specs.Hyphens.{placed, saying, in_text as text_offered, line_after}
 use Rattle.preconv_characters.specs.Saying.{all_sent}
-use Rattle.preconv_characters.specs.Beginnings.{opened, said_name}
+use Rattle.preconv_characters.specs.Beginnings.{opened, said_name, is_alone}
 use Rattle.preconv_lines.specs.Conditions.{is_gap}
 use Rattle.preconv_lines.specs.Lines.{is_control, ends_name, control as control_offered, naming, named_line}
 use Rattle.preconv_lines.specs.Lines.{follows_tag, begins_apart, breaking, at_start, opening}
@@ -40,6 +40,7 @@ use Rattle.preconv_converter.proofs.Plain.{and-first, and-second, is_not}
 use Rattle.preconv_converter.proofs.Reading.{fed-append}
 use Rattle.preconv_characters.proofs.SentWhole.{sent_is}
 use Rattle.preconv_converter.proofs.Sent.{ascii-goes}
+use Rattle.preconv_converter.proofs.Controls.{no_blank}
 use Rattle.preconv_converter.specs.Runs.{goes_on_comment}
 use Rattle.preconv_converter.proofs.CommentsGo.{sames, sames_become, sames_were, comment_reads}
 use Rattle.preconv_converter.proofs.SignsGo.{text_line}
@@ -152,19 +153,19 @@ short_name : (x : Bool) (name : List ℕ) (o : Half) → not x ≡ true → left
 short_name false name o p = refl
 short_name true name o p = absurd (let no : false ≡ true = p in cc)
 
-opened_left : (o : Opens) (c : ℕ) (name : List ℕ) (h : Half) → passes o (length name) ≡ true
+opened_left : (o : Opens) (c : ℕ) (name : List ℕ) (h : Half) → (c == code "\\") ≡ false → passes o (length name) ≡ true
     → left (said_name o name c) (opened_half o c name h) ≡ left (says.Kept name) (half_of (stores (is_stored o) (opened_half o c name h)))
 unfolding stores is_stored opened_half
-opened_left opens.Rest c name h p = refl
-opened_left opens.End c name h p = refl
-opened_left opens.Title c name h p = refl
-opened_left opens.Plain c name h p = refl
-opened_left opens.Tagged c name h p = refl
-opened_left opens.Table c name h p = refl
-opened_left opens.TableEnd c name h p = refl
-opened_left opens.Stored c name h p = refl
-opened_left opens.Definition c name h p = short_name (length name == 3) name _ p
-opened_left o c name h p = absurd (let no : false ≡ true = p in cc)
+opened_left opens.Rest c name h back p = ap (λ (xs : List ℕ). left (says.Kept xs) (opened_half opens.Rest c name h)) (no_blank (is_alone name) name c back)
+opened_left opens.End c name h back p = refl
+opened_left opens.Title c name h back p = refl
+opened_left opens.Plain c name h back p = refl
+opened_left opens.Tagged c name h back p = refl
+opened_left opens.Table c name h back p = refl
+opened_left opens.TableEnd c name h back p = refl
+opened_left opens.Stored c name h back p = refl
+opened_left opens.Definition c name h back p = short_name (length name == 3) name _ p
+opened_left o c name h back p = absurd (let no : false ≡ true = p in cc)
 
 ended_offered : (c : ℕ) (name : List ℕ) (h : Half) → ends_name c ≡ true → (c == code "\\") ≡ false
     → offer (comings.Byte c) (name_half lines.Name name h) ≡ left (said_name (opened name) name c) (opened_half (opened name) c name h)
@@ -201,7 +202,7 @@ opened_hears P n t c name h ends back all known more =
     let x = is_stored o in
     let k = opened_half o c name h in
     hears_left P n t (Names name h) (stores x k) c (says.Kept name) (sames name)
-    (ended_offered c name h ends back ∙ opened_left o c name h known) (letters_sent t name all ∙ sym (sames_become t name))
+    (ended_offered c name h ends back ∙ opened_left o c name h back known) (letters_sent t name all ∙ sym (sames_become t name))
     (sym (ap (λ (xs : List ℕ). all_were (sames name) ++ xs) (stores_none x k) ∙ append-nil (all_were (sames name)) ∙ sames_were name)) (more x k)
 
 rest_byte : (t : Target) (b : ℕ) → IsText b → (p : Spot) → in_rest p ≡ true → Hears in_rest 6 t p b
