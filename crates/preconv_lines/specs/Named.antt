@@ -1,7 +1,8 @@
 -- What the name in an escape stands for (groff(7); groff_char(7)).
 use Prim.Native.Char.{code}
-use Rattle.std.specs.Prelude.{ℕ, List, length, Bool, true, false, not, ◌==◌, ◌&&◌, if◌then◌else◌, Option}
-use Rattle.std.specs.Prelude.{None, Some}
+use Rattle.std.specs.Prelude.{ℕ, ◌-◌, List, [], ◌∷◌, ◌++◌, length, take, drop, Bool, true, false, not, ◌==◌, ◌&&◌}
+use Rattle.std.specs.Prelude.{if◌then◌else◌, Option, None, Some, codes}
+use Rattle.std.specs.Str.{bytes_eq}
 use Rattle.preconv_characters.specs.declared.said.Said.TheVariants as says
 use Rattle.preconv_lines.specs.declared.half.Half.{Half}
 use Rattle.preconv_lines.specs.declared.half.Line.{Line}
@@ -88,14 +89,23 @@ hang h =
     then taken (says.Hang h.spelled) (record (without_escape h)
     { line = lines.Text; before = Character Other }) else ended_kept h
 
--- The register `.g` is 1. Sizes and colours are dropped.
+-- The register `.g` is 1. The indent of a manual page, which groff's macros have in `an-margin`, is `_` in
+-- tmac.an.
+abbrev pub before_name : Half → ℕ
+before_name h = length h.kept - 11
+
+unfoldable pub register : Half → Offered
+register h =
+    if is_pair (code ".") (code "g") h.spelled then ended (says.Byte (code "1")) (placed Other h) else
+    if bytes_eq (drop (before_name h) h.kept) (codes "[an-margin]")
+    then ended (says.Kept (take (before_name h) h.kept ++ code "_" ∷ [])) (placed Other h) else ended_kept h
+
+-- Sizes and colours are dropped.
 abbrev pub named : Kind → Half → Offered
 named kinds.Glyph h = glyph h
 named kinds.Code h = numbered h
 named kinds.Font h = font_named h
-named kinds.Register h =
-    if is_pair (code ".") (code "g") h.spelled then ended (says.Byte (code "1")) (placed Other h)
-    else ended_kept h
+named kinds.Register h = register h
 named kinds.Size h = dropped h
 named kinds.Dropped h = dropped h
 named kinds.Identifier h = tested (not (length h.spelled == 0)) h

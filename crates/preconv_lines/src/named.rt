@@ -163,6 +163,28 @@ impl Half {
         Seen::taken(Said::Hang(number))
     }
 
+    /// A register. The indent of a manual page, which groff's macros have in `an-margin`, is `_` in tmac.an.
+    #[tactic(auto, unfolding(crate::specs::Named::register))]
+    fn register(&mut self) -> Seen
+        ensures { offered self.new result ≡ specs.register self.old }
+    {
+        let name = self.spelled;
+        if is_pair(name.as_bytes(), b'.', b'g') {
+            self.places(Mark::Other);
+            return self.ended(Said::Byte(b'1'));
+        }
+        let kept = self.kept;
+        let bytes = kept.as_bytes();
+        let cut = bytes.len().saturating_sub(11);
+        if &bytes[cut..] != b"[an-margin]".as_slice() {
+            return self.ended_kept();
+        }
+        let mut indent = Name::of(&bytes[..cut]);
+        indent.push(b'_');
+        self.places(Mark::Other);
+        self.ended(Said::Kept(indent))
+    }
+
     /// The name of an escape has ended.
     pub(crate) fn named(&mut self, kind: Kind) -> Seen
         ensures { offered self.new result ≡ specs.named kind self.old }
@@ -172,11 +194,7 @@ impl Half {
             Kind::Glyph => self.glyph(),
             Kind::Code => self.numbered(),
             Kind::Font => self.font(),
-            Kind::Register if is_pair(name.as_bytes(), b'.', b'g') => {
-                self.places(Mark::Other);
-                self.ended(Said::Byte(b'1'))
-            }
-            Kind::Register => self.ended_kept(),
+            Kind::Register => self.register(),
             Kind::Text => self.string(string_code(name.as_bytes())),
             Kind::Hang => self.hang(),
             Kind::Overstruck => self.character(overstruck(name.as_bytes())),

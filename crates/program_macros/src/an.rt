@@ -42,7 +42,6 @@ pub(crate) static TEXT: &[u8] = b"\
 .nr PD 1v\n\
 .nr ^ 0 1\n\
 .nr _ 7n\n\
-.nr an-margin 7n\n\
 .nr ~ 7n\n\
 .DT\n\
 ..\n\
@@ -358,14 +357,12 @@ pub(crate) static TEXT: &[u8] = b"\
 .nr >\\\\n+^ \\\\n_\n\
 .nr ~ |\\\\$1n-1u\n\
 .nr _ +\\\\n~\n\
-.nr an-margin \\\\n_\n\
 .nr ~ \\\\n(IN\n\
 .in \\\\n_u\n\
 ..\n\
 .de RE\n\
 .if \\\\n(.$ .if \\\\n^>0\\\\$1 .nr ^ 0\\\\$1\n\
 .if \\\\n^ \\\\{.nr _ \\\\n[>\\\\n^]\n\
-.nr an-margin \\\\n_\n\
 .nr ~ \\\\n[<\\\\n-^]\\\\}\n\
 .in \\\\n_u\n\
 ..\n\
