@@ -42,6 +42,26 @@ fn narrow_letter(byte: u8, table: &OwnTable<'_>) -> Option<char>
     letter_read(&table.read(None, byte))
 }
 
+/// Puts the letter of the pair that these bytes begin with, where it is plain and no backspace follows: at most 4 bytes. Tells how many bytes it is of.
+#[inline(always)]
+fn put_pair(bytes: &[u8], table: &OwnTable<'_>, out: &mut SliceVec<'_, u8>) -> usize
+    requires { length out.old.items + 4 ≤ out.old.capacity }
+    ensures moves { (way : Way) → is_plain way ≡ true →
+        Moves table.now (resting way) (resting way) out.old.items out.new.items bytes.now (drop result bytes.now) }
+    ensures within { result ≤ length bytes.now }
+    ensures few { length out.new.items ≤ length out.old.items + 4 * result }
+    ensures room { out.new.capacity ≡ out.old.capacity }
+{
+    if bytes.len() < 3 || bytes[2] == b'\x08' {
+        return 0;
+    }
+    if let Some(letter) = pair_letter(bytes[0], bytes[1], table) {
+        put_character(letter, out);
+        return 2;
+    }
+    0
+}
+
 /// Puts what the first of these bytes come to, where it is plain and no backspace follows: at most 4 bytes. Tells how many bytes it is of.
 #[inline(always)]
 fn put_first(bytes: &[u8], table: &OwnTable<'_>, out: &mut SliceVec<'_, u8>) -> usize
@@ -65,16 +85,12 @@ fn put_first(bytes: &[u8], table: &OwnTable<'_>, out: &mut SliceVec<'_, u8>) -> 
         out.push(byte);
         return 1;
     }
+    if table.is_lead(byte) {
+        return put_pair(bytes, table, out);
+    }
     if let Some(letter) = narrow_letter(byte, table) {
         put_character(letter, out);
         return 1;
-    }
-    if bytes.len() < 3 || bytes[2] == b'\x08' {
-        return 0;
-    }
-    if let Some(letter) = pair_letter(byte, bytes[1], table) {
-        put_character(letter, out);
-        return 2;
     }
     0
 }

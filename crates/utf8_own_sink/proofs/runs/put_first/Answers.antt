@@ -1,11 +1,6 @@
 use Rattle.std.proofs.Common.{◌≡◌, false, sym, ◌∙◌, arith}
-use Rattle.utf8_own_sink.proofs.Moving.{Moves-none, ascii-at, blank-at, narrow-at, pair-at}
+use Rattle.utf8_own_sink.proofs.Moving.{narrow-at}
 use Rattle.utf8_own_sink.proofs.runs.put_first.Goals as goal
-
-pub returns-in-Some-pair_letter-clause-moves : goal.returns-in-Some-pair_letter-clause-moves
-returns-in-Some-pair_letter-clause-moves c way clear =
-    pair-at c.args.table.now way c.args.out.now.items c.put_character-in-Some-pair_letter.new.out.items c.args.bytes.now c.in-Some-pair_letter.letter clear (omega (arith, c.if-bytes-lt3.false))
-    c.if-bytes-eq8-2.false c.in-Some-pair_letter.ensures c.put_character-in-Some-pair_letter.ensures.items
 
 pub returns-in-Some-clause-moves : goal.returns-in-Some-clause-moves
 returns-in-Some-clause-moves c way clear =
