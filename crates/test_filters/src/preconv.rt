@@ -227,7 +227,7 @@ fn turns_a_long_line(rt: HostRuntime) -> Result<(), std::alloc::AllocError> {
     let mut turned = Vec::new(rt.alloc());
     for _ in 0..40_000 {
         page.extend_from_slice(b"ab \xe2\x86\x92 ")?;
-        turned.extend_from_slice(b"ab -> ")?;
+        turned.extend_from_slice(b"ab \\-> ")?;
     }
     turned.push(b'\n')?;
     let mut output = Vec::new(rt.alloc());
