@@ -231,7 +231,7 @@ line_by : (m : Bool) (x : Mark) (h : Half) → (placed_as m x h).line ≡ h.line
 line_by true x h = refl
 line_by false x h = refl
 
-placed_line : (x : Mark) (h : Half) → (placed x h).line ≡ h.line
+pub placed_line : (x : Mark) (h : Half) → (placed x h).line ≡ h.line
 placed_line x h = line_by h.manual x h
 
 escape_by : (m : Bool) (x : Mark) (h : Half) → is_plain (placed_as m x h).escape ≡ is_plain h.escape
@@ -315,6 +315,15 @@ run_step a b l r none free line p =
     let on : line_taken r.half.line b ≡ r.half.line = ap (λ (m : Line). line_taken m b) line ∙ same_line l a b p ∙ sym line in
     read_as_is b r none (ap is_raw line ∙ not_raw l a b p) (as_is l a b r.half line free p)
     ∙ ap (λ (h : Half). emitted (with_half h r) (b ∷ []) 1) (taken_is b r.half (run_newline a b (is_run l a b p)) on)
+
+text_goes : (b : ℕ) → goes_on_text b ≡ true → run_in lines.Text (code ".") b ≡ true
+unfolding run_in
+text_goes b p = ap (λ (x : Bool). x || (may_close b && not (is_stop (code ".")))) p
+
+-- a byte that only goes on a text line, whatever stands before it
+pub text_step : (b : ℕ) (r : Reader) → r.pending ≡ Nothing → is_open r.half ≡ true → r.half.line ≡ lines.Text → goes_on_text b ≡ true
+    → read b r ≡ emitted (with_half (placed (mark_of b) r.half) r) (b ∷ []) 1
+text_step b r none free line p = run_step (code ".") b lines.Text r none free line (text_goes b p)
 
 plainly : (x y : Bool) → (x || (y && false)) ≡ true → x ≡ true
 plainly true y p = refl

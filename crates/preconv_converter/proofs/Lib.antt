@@ -7,6 +7,7 @@ pub mod Controls
 pub mod GlyphsGo
 pub mod Hearing
 pub mod InComments
+pub mod LetterRuns
 pub mod LinesGo
 pub mod Names
 pub mod Plain

@@ -1,5 +1,5 @@
 -- A character of two or three bytes is taken whole.
-use Rattle.std.proofs.Common.{◌≡◌, ℕ, ◌+◌, ◌<◌, ◌≤◌, List, [], ◌∷◌, ◌++◌, length, take, get_or, Bool, true, false, nat_lt, ◌&&◌, if◌then◌else◌, refl, sym, ◌∙◌, ap, arith}
+use Rattle.std.proofs.Common.{◌≡◌, ℕ, ◌<◌, ◌≤◌, List, [], ◌∷◌, ◌++◌, length, take, get_or, Bool, true, false, nat_lt, ◌&&◌, if◌then◌else◌, refl, sym, ◌∙◌, ap, arith}
 use Rattle.std.proofs.lemmas.Bool.{lt-ltb, le-ltb}
 use Rattle.std.proofs.lemmas.Bool.Decides.{nat_tests}
 use Rattle.preconv_lines.specs.declared.half.Coming.TheVariants.{Wide}
@@ -14,11 +14,11 @@ use Rattle.preconv_converter.proofs.Plain.{and-first, and-second, none_heard}
 
 -- ---- numbers
 
-record Within (first end b : ℕ) : Type 0 where
-  low : first ≤ b
-  high : b ≤ end
+pub record Within (first end b : ℕ) : Type 0 where
+  pub low : first ≤ b
+  pub high : b ≤ end
 
-within : (first end b : ℕ) → is_within first end b ≡ true → Within first end b
+pub within : (first end b : ℕ) → is_within first end b ≡ true → Within first end b
 within first end b e = record { low = grind (arith, nat_tests); high = grind (arith, nat_tests) }
 
 tail_is_second : (a b : ℕ) → a < 224 → is_tail b ≡ true → is_second a b ≡ true
@@ -40,7 +40,7 @@ two_fed a b r two cooked none =
     ∙ ap (λ (x : Bool). if x then whole (two_code a b) s else emitted (pending_with (Two a b) s) [] 0) (lt-ltb a 224 (omega (arith, high)))
     ∙ ap (λ (u : Reader). heard (Wide (two_code a b)) u) (none_heard r.pending r none refl))
 
-three_fed : (a b d : ℕ) (r : Reader) → is_three a b d ≡ true → is_raw r.half.line ≡ false → r.pending ≡ Nothing → fed r (a ∷ b ∷ d ∷ []) ≡ heard (Wide (three_code a b d)) r
+pub three_fed : (a b d : ℕ) (r : Reader) → is_three a b d ≡ true → is_raw r.half.line ≡ false → r.pending ≡ Nothing → fed r (a ∷ b ∷ d ∷ []) ≡ heard (Wide (three_code a b d)) r
 three_fed a b d r three cooked none =
     let s = pending_with (One a) r in
     let u = pending_with (Two a b) r in

@@ -1,4 +1,5 @@
 pub mod Characters
+pub mod Letters
 pub mod Passing
 pub mod Pieces
 pub mod PlainText

@@ -1,9 +1,10 @@
 //! What manual pages use, turned into the language of the formatter.
 //!
-//! It stands on nr_units, nr_vectors, document_stages, preconv_characters and preconv_lines. To read: `runs`, `reader`, `whole`,
+//! It stands on nr_units, nr_vectors, document_stages, preconv_characters and preconv_lines. To read: `runs`, `reader`, `whole`, `letters`,
 //! `passing`; `staged`, `running`; `plain_text`, `word_laws`.
 #![tactic(auto)]
 
+mod letters;
 mod passing;
 mod plain_text;
 mod reader;

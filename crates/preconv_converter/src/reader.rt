@@ -401,6 +401,11 @@ impl Reader {
         ensures room { out.new.capacity ≡ out.old.capacity }
     {
         if bytes[0] >= 128 {
+            let letters = self.pass_letters(bytes);
+            if letters.count > 0 {
+                out.extend_prefix(bytes, letters.count);
+                return letters;
+            }
             return self.take_beyond(bytes, out);
         }
         let run = self.pass(bytes);

@@ -13,7 +13,7 @@ static TEXT: [u8; 256] =
 
 /// Whether a byte only goes on a text line or a request, whatever stands before it: it prints, and is neither a hyphen, a
 /// backslash nor what closes a sentence. One look at a table takes half the instructions of comparing with the ends of three ranges.
-fn goes_on_text(byte: u8) -> bool
+pub(crate) fn goes_on_text(byte: u8) -> bool
     ensures { result ≡ specs.goes_on_text byte }
 {
     TEXT[usize::from(byte)] != b'-'

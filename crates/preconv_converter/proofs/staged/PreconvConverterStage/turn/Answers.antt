@@ -1,6 +1,5 @@
-use Rattle.std.proofs.Common.{rules, ◌≡◌, ◌<◌, ◌≤◌, length, refl, arith}
+use Rattle.std.proofs.Common.{rules, ◌≡◌, ◌<◌, length, arith}
 use Rattle.std.proofs.lemmas.List.{length-take}
-use Rattle.preconv_converter.specs.Reading.{Takes}
 use Rattle.preconv_converter.proofs.SaidParts.{counted-taken, said-taken, taken-first}
 use Rattle.preconv_converter.proofs.Taking.{Takes-cut}
 use Rattle.preconv_converter.proofs.staged.PreconvConverterStage.turn.Goals as goal
