@@ -1,5 +1,6 @@
 -- Several bytes are read at once.
-use Rattle.std.proofs.Common.{◌≡◌, ◌≢◌, ℕ, ◌+◌, ◌<◌, ◌≤◌, List, [], ◌∷◌, ◌++◌, length, drop, Bool, true, false, not, ◌==◌, ◌&&◌, nat_le, nat_lt, if◌then◌else◌, Option, None, Some, is_some, refl, sym, ◌∙◌, ap, subst, append-nil, append_assoc, arith}
+use Rattle.std.proofs.Common.{◌≡◌, ◌≢◌, ℕ, zero, suc, ◌+◌, ◌-◌, ◌<◌, ◌≤◌, List, [], ◌∷◌, ◌++◌, length, drop, take, get_or, inl, inr, Bool, true, false, not, ◌==◌, ◌&&◌, nat_le, nat_lt, if◌then◌else◌, Option, None, Some, is_some, refl, sym, ◌∙◌, ap, subst, append-nil, append_assoc, arith}
+use Rattle.std.proofs.lemmas.Bool.{cases_lt}
 use Rattle.std.proofs.lemmas.Bool.Decides.{nat_tests}
 use Rattle.std.specs.Char.{encode_utf8}
 use Rattle.std.specs.Prelude.{slice_index}
@@ -197,17 +198,6 @@ narrow-at t way p q [] l clear many free is put = absurd (omega (arith, many))
 narrow-at t way p q (a ∷ []) l clear many free is put = absurd (omega (arith, many))
 narrow-at t way p q (a ∷ b ∷ bs) l clear many free is put = narrow-moves t way p q a b l bs clear is (not_eight b free) put
 
-pub ascii-at : (t : Characters) (way : Way) (p q bytes : List ℕ) → is_plain way ≡ true → 1 < length bytes → slice_index bytes 1 ≢ 8 → 32 < slice_index bytes 0 → slice_index bytes 0 < 127
-    → q ≡ p ++ slice_index bytes 0 ∷ [] → Moves t (resting way) (resting way) p q bytes (drop 1 bytes)
-ascii-at t way p q [] clear many free above below put = absurd (omega (arith, many))
-ascii-at t way p q (a ∷ []) clear many free above below put = absurd (omega (arith, many))
-ascii-at t way p q (a ∷ b ∷ bs) clear many free above below put = ascii-moves t way p q a b bs clear above below (not_eight b free) put
-
-pub blank-at : (t : Characters) (way : Way) (p q bytes : List ℕ) → is_plain way ≡ true → 0 < length bytes → is_as_is (slice_index bytes 0) ≡ true → slice_index bytes 0 ≤ 32
-    → q ≡ p ++ slice_index bytes 0 ∷ [] → Moves t (resting way) (resting way) p q bytes (drop 1 bytes)
-blank-at t way p q [] clear many is low put = absurd (omega (arith, many))
-blank-at t way p q (a ∷ bs) clear many is low put = blank-moves t way p q a bs clear is low put
-
 pub pair-at : (t : Characters) (way : Way) (p q bytes : List ℕ) (l : ℕ) → is_plain way ≡ true → 2 < length bytes → slice_index bytes 2 ≢ 8 → IsPair t (slice_index bytes 0) (slice_index bytes 1) l
     → q ≡ p ++ encode_utf8 l → Moves t (resting way) (resting way) p q bytes (drop 2 bytes)
 pair-at t way p q [] l clear many free is put = absurd (omega (arith, many))
@@ -245,5 +235,59 @@ rests t r p q xs ys is f = subst (λ (s : Reader). Moves t s s p q xs ys) (sym i
 -- none was read before the first one
 pub half-then : (t : Characters) (r s : Reader) (h : Half) (p q left bytes : List ℕ) (n : ℕ) → n ≡ 0 → Moves t r r p q bytes (drop n bytes) → 0 < length bytes → r.half ≡ h → s ≡ after t h (slice_index bytes 0) r
     → left ≡ q ++ said t h (slice_index bytes 0) r → Moves t r s p left bytes (drop 1 bytes)
-half-then t r s h p q left bytes n zero f many is after-is put =
-    Moves-then t r r s p q left bytes bytes (drop 1 bytes) (subst (λ (k : ℕ). Moves t r r p q bytes (drop k bytes)) zero f) (half-at t r s h q left bytes many is after-is put)
+half-then t r s h p q left bytes n no_more f many is after-is put =
+    Moves-then t r r s p q left bytes bytes (drop 1 bytes) (subst (λ (k : ℕ). Moves t r r p q bytes (drop k bytes)) no_more f) (half-at t r s h q left bytes many is after-is put)
+
+-- ---- several bytes of ASCII
+
+pub as_is_other : (b : ℕ) → is_as_is b ≡ true → b ≢ 8
+as_is_other b is = grind (arith, nat_tests)
+
+as_is_below : (b : ℕ) → is_as_is b ≡ true → b < 127
+as_is_below b is = grind (arith, nat_tests)
+
+-- nothing is struck over the last of the first n bytes: it is a blank, or what follows is no backspace
+pub data Ends (n : ℕ) (bytes : List ℕ) : Type 0 where
+  Never : n ≡ 0 → Ends n bytes
+  Blank : get_or bytes (n - 1) 0 ≤ 32 → Ends n bytes
+  Free : n < length bytes → get_or bytes n 0 ≢ 8 → Ends n bytes
+
+ends_on : (n a : ℕ) (bs : List ℕ) → Ends (suc n) (a ∷ bs) → Ends n bs
+ends_on n a bs (Never e) = absurd (omega (arith, e))
+ends_on zero a bs (Blank l) = Never refl
+ends_on (suc m) a bs (Blank l) = let P : ℕ → Type 0 = λ k. get_or bs k 0 ≤ 32 in let e : m ≡ suc m - 1 = omega arith in
+    let Q : ℕ → Type 0 = λ k. get_or (a ∷ bs) k 0 ≤ 32 in let f : suc (suc m) - 1 ≡ suc m = omega arith in
+    Blank (subst P e (subst Q f l))
+ends_on n a bs (Free l f) = Free (omega (arith, l)) f
+
+record NextFree (bs : List ℕ) : Type 0 where
+  some : 0 < length bs
+  free : get_or bs 0 0 ≢ 8
+
+next_free : (n a : ℕ) (bs : List ℕ) → 32 < a → ((i : ℕ) → i < suc n → is_as_is (get_or (a ∷ bs) i 0) ≡ true) → suc n ≤ length (a ∷ bs) → Ends (suc n) (a ∷ bs) → NextFree bs
+next_free zero a bs above all l (Never e) = absurd (omega (arith, e))
+next_free zero a bs above all l (Blank low) = absurd (omega (arith, above, low))
+next_free zero a bs above all l (Free m f) = record { some = omega (arith, m); free = f }
+next_free (suc n) a bs above all l e = record { some = omega (arith, l); free = as_is_other (get_or bs 0 0) (all 1 (omega arith)) }
+
+first_by : (t : Characters) (way : Way) (p : List ℕ) (a : ℕ) (bs : List ℕ) → is_plain way ≡ true → 32 < a → a < 127 → NextFree bs
+    → Moves t (resting way) (resting way) p (p ++ a ∷ []) (a ∷ bs) bs
+first_by t way p a [] clear above below next = absurd (let l = next.some in omega (arith, l))
+first_by t way p a (b ∷ bs) clear above below next = ascii-moves t way p (p ++ a ∷ []) a b bs clear above below (not_eight b next.free) refl
+
+pub ascii_run : (t : Characters) (way : Way) (p : List ℕ) (n : ℕ) (bs : List ℕ) → is_plain way ≡ true → ((i : ℕ) → i < n → is_as_is (get_or bs i 0) ≡ true)
+    → n ≤ length bs → Ends n bs → Moves t (resting way) (resting way) p (p ++ take n bs) bs (drop n bs)
+ascii_run t way p zero bs clear all l e =
+    subst (λ (q : List ℕ). Moves t (resting way) (resting way) p q bs bs) (sym (append-nil p)) (Moves-none t (resting way) p bs)
+ascii_run t way p (suc n) [] clear all l e = absurd (omega (arith, l))
+ascii_run t way p (suc n) (a ∷ bs) clear all l e =
+    let r = resting way in
+    let is : is_as_is a ≡ true = all 0 (omega arith) in
+    let first : Moves t r r p (p ++ a ∷ []) (a ∷ bs) bs = elim (cases_lt 32 a) [
+      | inl above ↦ first_by t way p a bs clear above (as_is_below a is) (next_free n a bs above all l e)
+      | inr low ↦ blank-moves t way p (p ++ a ∷ []) a bs clear is low refl
+    ] in
+    let more = ascii_run t way (p ++ a ∷ []) n bs clear (λ i below. all (suc i) (omega (arith, below))) (omega (arith, l)) (ends_on n a bs e) in
+    let both : Moves t r r (p ++ a ∷ []) (p ++ a ∷ take n bs) bs (drop n bs) =
+    subst (λ (q : List ℕ). Moves t r r (p ++ a ∷ []) q bs (drop n bs)) (append_assoc p (a ∷ []) (take n bs)) more in
+    Moves-then t r r r p (p ++ a ∷ []) (p ++ a ∷ take n bs) (a ∷ bs) bs (drop n bs) first both

@@ -1,8 +1,11 @@
-use Rattle.std.proofs.Common.{◌≡◌, false, sym, ◌∙◌, arith}
-use Rattle.utf8_own_sink.proofs.Moving.{narrow-at}
+use Rattle.std.proofs.Common.{List, ℕ, drop, sym, subst}
+use Rattle.utf8_own_sink.specs.Reading.{Moves, resting}
 use Rattle.utf8_own_sink.proofs.runs.put_first.Goals as goal
 
-pub returns-in-Some-clause-moves : goal.returns-in-Some-clause-moves
-returns-in-Some-clause-moves c way clear =
-    narrow-at c.args.table.now way c.args.out.now.items c.put_character.new.out.items c.args.bytes.now c.in-Some.letter clear (omega (arith, c.if-bytes-lt2.false))
-    c.if-bytes-eq8.false c.in-Some.ensures c.put_character.ensures.items
+pub returns-clause-moves : goal.returns-clause-moves
+returns-clause-moves c way clear =
+    let t = c.args.table.now in
+    let bs = c.args.bytes.now in
+    let n = c.ascii_len-len.result in
+    subst (λ (q : List ℕ). Moves t (resting way) (resting way) c.args.out.now.items q bs (drop n bs)) (sym c.extend_prefix.ensures.items)
+    (c.ascii_len-len.ensures.moves t way c.args.out.now.items clear)
