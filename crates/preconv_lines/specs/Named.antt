@@ -91,13 +91,16 @@ hang h =
 
 -- The register `.g` is 1. The indent of a manual page, which groff's macros have in `an-margin`, is `_` in
 -- tmac.an.
+abbrev pub margin : List ℕ
+margin = codes "[an-margin]"
+
 abbrev pub before_name : Half → ℕ
-before_name h = length h.kept - 11
+before_name h = length h.kept - length margin
 
 unfoldable pub register : Half → Offered
 register h =
     if is_pair (code ".") (code "g") h.spelled then ended (says.Byte (code "1")) (placed Other h) else
-    if bytes_eq (drop (before_name h) h.kept) (codes "[an-margin]")
+    if bytes_eq (drop (before_name h) h.kept) margin
     then ended (says.Kept (take (before_name h) h.kept ++ code "_" ∷ [])) (placed Other h) else ended_kept h
 
 -- Sizes and colours are dropped.

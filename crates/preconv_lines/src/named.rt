@@ -10,6 +10,9 @@ use preconv_characters::{
     is_struck, marked_by, overstruck, quote_of, string_code, wide_mark,
 };
 
+/// The register that has the indent of a manual page in groff's macros.
+const MARGIN: &[u8] = b"[an-margin]";
+
 impl Half {
     /// This character, if there is one. A name that means nothing goes out as it is, but between
     /// delimiters, which the language doesn't have.
@@ -175,8 +178,8 @@ impl Half {
         }
         let kept = self.kept;
         let bytes = kept.as_bytes();
-        let cut = bytes.len().saturating_sub(11);
-        if &bytes[cut..] != b"[an-margin]".as_slice() {
+        let cut = bytes.len().saturating_sub(MARGIN.len());
+        if &bytes[cut..] != MARGIN {
             return self.ended_kept();
         }
         let mut indent = Name::of(&bytes[..cut]);
