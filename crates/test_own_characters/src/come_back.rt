@@ -59,10 +59,17 @@ fn rows() -> &'static [Case] {
         },
         Case {
             text: ".B 日本\n日\\fB本\\(bu日\\fR\n\\fB日",
-            shown: ".B 日\\(zb本\n日\\fB\\(zb本\\(bu日\\fR\n\\fB日",
+            shown: ".B 日\\(zb本\n日\\fB\\(zb本\\(bu日\\fR\\(zj\n\\fB日",
             narrow: 0,
             wide: 2,
-            bytes: 38,
+            bytes: 42,
+        },
+        Case {
+            text: "日\n\\fBa日\n\\-日\n\\fB",
+            shown: "日\n\\fBa\\(zb日\n\\-日\n\\fB",
+            narrow: 0,
+            wide: 1,
+            bytes: 22,
         },
         Case {
             text: ".TS\nl.\n日本\n日 T{\n日\n本\nT}\n日\n.TE\n日\n本",

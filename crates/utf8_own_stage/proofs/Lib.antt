@@ -1,5 +1,6 @@
 pub mod Back
 pub mod Begins
+pub mod Few
 pub mod Held
 pub mod Letters
 pub mod LettersMore
@@ -8,3 +9,4 @@ pub mod OnlyPoints
 pub mod Parts
 pub mod PlainRead
 pub mod Quiet
+pub mod ReadAs

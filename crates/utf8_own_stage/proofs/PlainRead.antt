@@ -1,4 +1,5 @@
 -- What comes of a character of ASCII that is printed as it comes: what was held, and it, unless it is held.
+use Prim.Native.Char as char
 use Rattle.std.proofs.Common.{◌≡◌, ℕ, ◌%◌, ◌<◌, [], ◌∷◌, ◌++◌, Bool, true, false, not, ◌&&◌, ◌||◌, ◌==◌, nat_le, nat_lt, if◌then◌else◌, Option, None, Some, refl, ◌∙◌, ap, arith}
 use Rattle.std.proofs.lemmas.Bool.{ltb-true}
 use Rattle.std.proofs.lemmas.Bool.Decides.{nat_tests}
@@ -18,22 +19,24 @@ use Rattle.utf8_own_characters.specs.Table.{Characters, code_at, place_of}
 use Rattle.utf8_own_characters.proofs.Tests.{and_first, and_second, and_true, lt_so, not_true}
 use Rattle.utf8_own_stage.specs.declared.points.Place.{Place}
 use Rattle.utf8_own_stage.specs.declared.points.Point.TheVariants.{Nothing, Cut}
-use Rattle.utf8_own_stage.specs.Coding.{coded, coded_by, put_at}
+use Rattle.utf8_own_stage.specs.declared.points.Waiting.TheVariants as waiting
+use Rattle.utf8_own_stage.specs.Coding.{coded, coded_by, put_at, said_cluster}
 use Rattle.utf8_own_stage.specs.Letters.{is_quiet}
 use Rattle.utf8_own_stage.specs.Plain.{held_of, holds_plain, is_plain, is_plain_cluster, is_ready_for, unheld}
-use Rattle.utf8_own_stage.specs.Points.{newline, passed, text_of}
+use Rattle.utf8_own_stage.specs.Points.{newline, passed, read_as, text_of}
 use Rattle.utf8_own_stage.proofs.Quiet.{quiet_passed, quiet_put}
+use Rattle.utf8_own_stage.proofs.ReadAs.{ascii_read}
 
 -- ---- the parts of a test
 
 low : (b : ℕ) → is_plain b ≡ true → nat_lt b 128 ≡ true
-low b e = and_first (nat_lt b 128) (not (b == newline)) (and_first (nat_lt b 128 && not (b == newline)) (not (b == 92)) e)
+low b e = and_first (nat_lt b 128) (not (b == newline)) (and_first (nat_lt b 128 && not (b == newline)) (not (b == char.code "\\")) e)
 
 no_line : (b : ℕ) → is_plain b ≡ true → (b == newline) ≡ false
-no_line b e = not_true (b == newline) (and_second (nat_lt b 128) (not (b == newline)) (and_first (nat_lt b 128 && not (b == newline)) (not (b == 92)) e))
+no_line b e = not_true (b == newline) (and_second (nat_lt b 128) (not (b == newline)) (and_first (nat_lt b 128 && not (b == newline)) (not (b == char.code "\\")) e))
 
-no_slash : (b : ℕ) → is_plain b ≡ true → (b == 92) ≡ false
-no_slash b e = not_true (b == 92) (and_second (nat_lt b 128 && not (b == newline)) (not (b == 92)) e)
+no_slash : (b : ℕ) → is_plain b ≡ true → (b == char.code "\\") ≡ false
+no_slash b e = not_true (b == char.code "\\") (and_second (nat_lt b 128 && not (b == newline)) (not (b == char.code "\\")) e)
 
 quiet_so : (h : Option Cluster) (p : Place) → is_ready_for h p ≡ true → is_quiet p ≡ true
 quiet_so h p e = and_first (is_quiet p) (nat_lt p.before 128) (and_first (is_quiet p && nat_lt p.before 128) (holds_plain h) e)
@@ -64,7 +67,7 @@ no_break a b p q =
 pub plain_put : (p : Place) (b : ℕ) → is_ready_for None p ≡ true → is_plain b ≡ true → put_at p b (b ∷ []) ≡ b ∷ []
 plain_put p b ready plain =
     quiet_put p b (b ∷ []) (quiet_so None p ready) (no_line b plain) (no_slash b plain)
-    ∙ ap (λ (x : Bool). text_of (if x then Cut else Nothing) ++ (b ∷ [])) (no_break p.before b (before_so None p ready) (low b plain))
+    ∙ ap (λ (x : Bool). text_of waiting.Nothing (if x then Cut else Nothing) ++ (b ∷ [])) (no_break p.before b (before_so None p ready) (low b plain))
 
 pub plain_passed : (p : Place) (b : ℕ) → is_ready_for None p ≡ true → is_plain b ≡ true → passed p b ≡ record p { before = b }
 plain_passed p b ready plain = quiet_passed p b (quiet_so None p ready) (no_line b plain) (no_slash b plain)
@@ -75,7 +78,7 @@ same_byte b plain = let few = ltb-true b 128 (low b plain) in omega (arith, few)
 -- ---- what is held
 
 ascii_so : (c : Cluster) → is_plain_cluster c ≡ true → is_ascii c ≡ true
-ascii_so c e = and_first (is_ascii c) (not (c.letter == newline)) (and_first (is_ascii c && not (c.letter == newline)) (not (c.letter == 92)) e)
+ascii_so c e = and_first (is_ascii c) (not (c.letter == newline)) (and_first (is_ascii c && not (c.letter == newline)) (not (c.letter == char.code "\\")) e)
 
 plain_by : (x y z w : Bool) → x && y && z && w ≡ true → x && z && w ≡ true
 plain_by true true true true e = refl
@@ -85,7 +88,7 @@ plain_by true false z w e = absurd (let no : false ≡ true = e in cc)
 plain_by false y z w e = e
 
 plain_letter : (c : Cluster) → is_plain_cluster c ≡ true → is_plain c.letter ≡ true
-plain_letter c e = plain_by (nat_lt c.letter 128) (is_same c (single c.letter)) (not (c.letter == newline)) (not (c.letter == 92)) e
+plain_letter c e = plain_by (nat_lt c.letter 128) (is_same c (single c.letter)) (not (c.letter == newline)) (not (c.letter == char.code "\\")) e
 
 pub cluster_plain : (c : Cluster) (p : Place) → is_ready_for (Some c) p ≡ true → is_plain c.letter ≡ true
 cluster_plain c p e = plain_letter c (and_second (is_quiet p && nat_lt p.before 128) (is_plain_cluster c) e)
@@ -94,6 +97,14 @@ pub cluster_coded : (t : Characters) (c : Cluster) (p : Place) → is_ready_for 
 cluster_coded t c p e =
     ap (λ (x : Bool). coded_by (if x then Some (One c.letter) else code_at t (place_of t.narrow c) (place_of t.wide c)) c.letter)
     (ascii_so c (and_second (is_quiet p && nat_lt p.before 128) (is_plain_cluster c) e))
+
+pub cluster_read : (c : Cluster) (p : Place) → is_ready_for (Some c) p ≡ true → read_as c ≡ c.letter
+cluster_read c p e = ascii_read c (ascii_so c (and_second (is_quiet p && nat_lt p.before 128) (is_plain_cluster c) e))
+
+pub cluster_said : (t : Characters) (c : Cluster) (p : Place) → is_ready_for (Some c) p ≡ true → said_cluster t p (Some c) ≡ put_at p c.letter (c.letter ∷ [])
+cluster_said t c p e =
+    ap (λ (n : ℕ). put_at p n (coded t c)) (cluster_read c p e)
+    ∙ ap (put_at p c.letter) (cluster_coded t c p e)
 
 pub none_ready : (h : Option Cluster) (p : Place) → is_ready_for h p ≡ true → is_ready_for None p ≡ true
 none_ready h p e = and_true (is_quiet p && nat_lt p.before 128) true (and_first (is_quiet p && nat_lt p.before 128) (holds_plain h) e) refl

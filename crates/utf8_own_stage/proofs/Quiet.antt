@@ -1,5 +1,6 @@
 -- Where each character is printed as it comes, a letter is printed after what stands before it, and so is the next one.
-use Rattle.std.proofs.Common.{◌≡◌, ℕ, ◌≤◌, List, [], ◌++◌, Bool, true, false, not, ◌&&◌, ◌||◌, ◌==◌, if◌then◌else◌, refl, sym, ◌∙◌, ap, arith, rules}
+use Prim.Native.Char.{code}
+use Rattle.std.proofs.Common.{◌≡◌, ℕ, ◌≤◌, List, ◌++◌, Bool, true, false, not, ◌&&◌, ◌||◌, ◌==◌, if◌then◌else◌, refl, sym, ◌∙◌, ap, arith, rules}
 use Rattle.std.proofs.lemmas.Bool.Decides.{nat_tests}
 use Rattle.ucd_breaks.specs.LineBreak.{line_break}
 use Rattle.ucd_breaks.specs.declared.LineBreak.{LineBreak}
@@ -11,20 +12,29 @@ use Rattle.utf8_own_stage.specs.declared.points.Line.{Line}
 use Rattle.utf8_own_stage.specs.declared.points.Line.TheVariants as lines
 use Rattle.utf8_own_stage.specs.declared.points.Place.{Place}
 use Rattle.utf8_own_stage.specs.declared.points.Point.{Point}
-use Rattle.utf8_own_stage.specs.declared.points.Point.TheVariants.{Nothing, Cut, Newline, Joint}
-use Rattle.utf8_own_stage.specs.Coding.{put_at}
+use Rattle.utf8_own_stage.specs.declared.points.Point.TheVariants.{Nothing, Cut}
+use Rattle.utf8_own_stage.specs.declared.points.Waiting.{Waiting}
+use Rattle.utf8_own_stage.specs.declared.points.Waiting.TheVariants as waiting
+use Rattle.utf8_own_stage.specs.Coding.{kept, put_at}
 use Rattle.utf8_own_stage.specs.Letters.{cut_between, is_common, is_ideographic, is_printed, is_quiet}
-use Rattle.utf8_own_stage.specs.Points.{character_by, going_on, holds, is_format, is_open, is_plain, line_ended, line_of_escape, may_cut, may_join, newline, passed, passed_by, point, text_of}
-use Rattle.utf8_own_characters.specs.Breaking.{is_east_asian, is_korean, may_begin, may_break, may_end}
+use Rattle.utf8_own_stage.specs.Points.{character_by, going_on, is_format, is_open, is_plain, is_waiting, line_ended, line_of_escape, may_cut, newline, passed, passed_by, point, point_waiting, text_of, waiting_with}
+use Rattle.utf8_own_characters.specs.Breaking.{is_korean, may_begin, may_break, may_end}
 
 is_line : (p : Place) → is_quiet p ≡ true → is_printed p.line ≡ true
-is_line p e = and_first (is_printed p.line) (is_open p) (and_first (is_printed p.line && is_open p) (not p.waits) e)
+is_line p e = and_first (is_printed p.line) (is_open p) (and_first (is_printed p.line && is_open p) (not (is_waiting p.waits)) e)
 
 pub is_open_so : (p : Place) → is_quiet p ≡ true → is_open p ≡ true
-is_open_so p e = and_second (is_printed p.line) (is_open p) (and_first (is_printed p.line && is_open p) (not p.waits) e)
+is_open_so p e = and_second (is_printed p.line) (is_open p) (and_first (is_printed p.line && is_open p) (not (is_waiting p.waits)) e)
 
-no_wait : (p : Place) → is_quiet p ≡ true → p.waits ≡ false
-no_wait p e = not_true p.waits (and_second (is_printed p.line && is_open p) (not p.waits) e)
+nothing_so : (w : Waiting) → is_waiting w ≡ false → w ≡ waiting.Nothing
+nothing_so waiting.Nothing e = refl
+nothing_so waiting.Newline e = absurd (let no : true ≡ false = e in cc)
+nothing_so waiting.Escape e = absurd (let no : true ≡ false = e in cc)
+nothing_so waiting.Name e = absurd (let no : true ≡ false = e in cc)
+nothing_so (waiting.Font name) e = absurd (let no : true ≡ false = e in cc)
+
+no_wait : (p : Place) → is_quiet p ≡ true → p.waits ≡ waiting.Nothing
+no_wait p e = nothing_so p.waits (not_true (is_waiting p.waits) (and_second (is_printed p.line && is_open p) (not (is_waiting p.waits)) e))
 
 plain_so : (e : Escape) → is_plain e ≡ true → e ≡ escapes.Plain
 plain_so escapes.Plain e = refl
@@ -46,45 +56,49 @@ printed_by lines.Tee c p e = absurd (let no : false ≡ true = e in cc)
 printed_by lines.Name c p e = absurd (let no : false ≡ true = e in cc)
 
 -- of a character that is no newline and no backslash
-pub quiet_passed : (p : Place) (c : ℕ) → is_quiet p ≡ true → (c == newline) ≡ false → (c == 92) ≡ false → passed p c ≡ record p { before = c }
+pub quiet_passed : (p : Place) (c : ℕ) → is_quiet p ≡ true → (c == newline) ≡ false → (c == code "\\") ≡ false → passed p c ≡ record p { before = c }
 quiet_passed p c e line slash =
-    let q : Place = record p { waits = false } in
+    let q : Place = record p { waits = waiting_with p.waits c } in
     ap (λ (x : Escape). passed_by x c q) (no_escape p e)
     ∙ if_not (c == newline) (line_ended q) (going_on c q) line
-    ∙ if_not (c == 92) (record q { escape = escapes.Begun; line = line_of_escape q.line }) (character_by q.line c q) slash
+    ∙ if_not (c == code "\\") (record q { escape = escapes.Begun; line = line_of_escape q.line }) (character_by q.line c q) slash
     ∙ printed_by p.line c q (is_line p e)
-    ∙ ap (λ (w : Bool). record p { before = c; waits = w }) (sym (no_wait p e))
+    ∙ ap (λ (w : Waiting). record p { before = c; waits = waiting_with w c }) (no_wait p e)
+    ∙ ap (λ (w : Waiting). record p { before = c; waits = w }) (sym (no_wait p e))
 
 -- ---- what goes out
 
-pub quiet_point : (p : Place) (c : ℕ) → is_quiet p ≡ true → (c == 92) ≡ false → point p c ≡ (if may_break p.before c then Cut else Nothing)
+pub quiet_point : (p : Place) (c : ℕ) → is_quiet p ≡ true → (c == code "\\") ≡ false → point p c ≡ (if may_break p.before c then Cut else Nothing)
 quiet_point p c e slash =
-    ap (λ (w : Bool). if w then (if is_east_asian c then Joint else Newline) else (if may_cut p c then Cut else Nothing)) (no_wait p e)
+    ap (λ (w : Waiting). if is_waiting w then point_waiting w c else (if may_cut p c then Cut else Nothing)) (no_wait p e)
     ∙ ap (λ (x : Bool). if not x && is_open p && may_break p.before c then Cut else Nothing) slash
     ∙ ap (λ (x : Bool). if x && may_break p.before c then Cut else Nothing) (is_open_so p e)
 
-pub none_held : (p : Place) (c : ℕ) → (c == newline) ≡ false → holds p c ≡ false
-none_held p c line = ap (λ (x : Bool). x && may_join p) line
+text_by : (w : Waiting) (x : Bool) → text_of w (if x then Cut else Nothing) ≡ text_of waiting.Nothing (if x then Cut else Nothing)
+text_by w true = refl
+text_by w false = refl
 
-pub quiet_put : (p : Place) (c : ℕ) (bytes : List ℕ) → is_quiet p ≡ true → (c == newline) ≡ false → (c == 92) ≡ false
-    → put_at p c bytes ≡ text_of (if may_break p.before c then Cut else Nothing) ++ bytes
+pub quiet_put : (p : Place) (c : ℕ) (bytes : List ℕ) → is_quiet p ≡ true → (c == newline) ≡ false → (c == code "\\") ≡ false
+    → put_at p c bytes ≡ text_of waiting.Nothing (if may_break p.before c then Cut else Nothing) ++ bytes
 quiet_put p c bytes e line slash =
-    ap (λ (x : Point). text_of x ++ (if holds p c then [] else bytes)) (quiet_point p c e slash)
-    ∙ ap (λ (x : Bool). text_of (if may_break p.before c then Cut else Nothing) ++ (if x then [] else bytes)) (none_held p c line)
+    ap (λ (x : Point). text_of p.waits x ++ kept (is_waiting (passed p c).waits) bytes) (quiet_point p c e slash)
+    ∙ ap (λ (zs : List ℕ). zs ++ kept (is_waiting (passed p c).waits) bytes) (text_by p.waits (may_break p.before c))
+    ∙ ap (λ (q : Place). text_of waiting.Nothing (if may_break p.before c then Cut else Nothing) ++ kept (is_waiting q.waits) bytes) (quiet_passed p c e line slash)
+    ∙ ap (λ (w : Waiting). text_of waiting.Nothing (if may_break p.before c then Cut else Nothing) ++ kept (is_waiting w) bytes) (no_wait p e)
 
 -- ---- a letter beyond ASCII
 
 no_line : (c : ℕ) → 128 ≤ c → (c == newline) ≡ false
 no_line c beyond = grind (arith, nat_tests)
 
-no_slash : (c : ℕ) → 128 ≤ c → (c == 92) ≡ false
+no_slash : (c : ℕ) → 128 ≤ c → (c == code "\\") ≡ false
 no_slash c beyond = grind (arith, nat_tests)
 
 pub letter_passed : (p : Place) (c : ℕ) → is_quiet p ≡ true → 128 ≤ c → passed p c ≡ record p { before = c }
 letter_passed p c e beyond = quiet_passed p c e (no_line c beyond) (no_slash c beyond)
 
 pub letter_put : (p : Place) (c : ℕ) (bytes : List ℕ) → is_quiet p ≡ true → 128 ≤ c
-    → put_at p c bytes ≡ text_of (cut_between p.before c) ++ bytes
+    → put_at p c bytes ≡ text_of waiting.Nothing (cut_between p.before c) ++ bytes
 letter_put p c bytes e beyond = quiet_put p c bytes e (no_line c beyond) (no_slash c beyond)
 
 -- ---- between common letters a line may be cut

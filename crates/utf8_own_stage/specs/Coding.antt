@@ -10,7 +10,7 @@ use Rattle.utf8_own_characters.specs.declared.listening.Listened.{Listened}
 use Rattle.utf8_own_characters.specs.Listening.{after, read, first}
 use Rattle.utf8_own_characters.specs.Table.{Characters, code}
 use Rattle.utf8_own_stage.specs.declared.points.Place.{Place}
-use Rattle.utf8_own_stage.specs.Points.{first_place, holds, left, passed, point, text_of}
+use Rattle.utf8_own_stage.specs.Points.{first_place, is_waiting, left, passed, point, read_as, text_of}
 
 -- its bytes in the table, or what its letter looks like
 abbrev pub coded_by : Option Code → ℕ → List ℕ
@@ -21,17 +21,20 @@ coded_by (Some (Two lead trail)) letter = lead ∷ trail ∷ []
 abbrev pub coded : Characters → Cluster → List ℕ
 coded t c = coded_by (code t c) c.letter
 
--- these bytes of a character, after what goes out before it; a newline may wait
+abbrev pub kept : Bool → List ℕ → List ℕ
+kept waits bytes = if waits then [] else bytes
+
+-- these bytes of a character, unless it waits, after what goes out before it
 abbrev pub put_at : Place → ℕ → List ℕ → List ℕ
-put_at p c bytes = text_of (point p c) ++ (if holds p c then [] else bytes)
+put_at p c bytes = text_of p.waits (point p c) ++ kept (is_waiting (passed p c).waits) bytes
 
 abbrev pub said_cluster : Characters → Place → Option Cluster → List ℕ
 said_cluster t p None = []
-said_cluster t p (Some c) = put_at p c.letter (coded t c)
+said_cluster t p (Some c) = put_at p (read_as c) (coded t c)
 
 abbrev pub after_cluster : Place → Option Cluster → Place
 after_cluster p None = p
-after_cluster p (Some c) = passed p c.letter
+after_cluster p (Some c) = passed p (read_as c)
 
 abbrev pub said_byte : Place → Option ℕ → List ℕ
 said_byte p None = []

@@ -11,7 +11,7 @@ use Rattle.utf8_own_characters.specs.Reading.{decode, list_of}
 use Rattle.utf8_own_characters.specs.Table.{Characters, Good, covers}
 use Rattle.utf8_own_stage.specs.declared.points.Place.{Place}
 use Rattle.utf8_own_stage.specs.Coding.{coded_text}
-use Rattle.utf8_own_stage.specs.Points.{first_place, holds, left, newline, passed, point, text_of}
+use Rattle.utf8_own_stage.specs.Points.{first_place, is_waiting, left, newline, passed, point, read_as, text_of}
 
 -- the cluster that ends, and then a character of ASCII
 abbrev pub cells_of : Listened → List Cluster
@@ -28,11 +28,11 @@ cells_in = cells_from first
 -- ---- the same with points
 
 abbrev pub cell_at : Place → Cluster → List Cluster
-cell_at p c = map single (text_of (point p c.letter)) ++ (if holds p c.letter then [] else c ∷ [])
+cell_at p c = map single (text_of p.waits (point p (read_as c))) ++ (if is_waiting (passed p (read_as c)).waits then [] else c ∷ [])
 
 abbrev pub pointed_from : Place → List Cluster → List Cluster
 pointed_from p [] = map single (left p)
-pointed_from p (c ∷ cs) = cell_at p c ++ pointed_from (passed p c.letter) cs
+pointed_from p (c ∷ cs) = cell_at p c ++ pointed_from (passed p (read_as c)) cs
 
 abbrev pub pointed : List Cluster → List Cluster
 pointed = pointed_from first_place
@@ -47,8 +47,7 @@ ComesBack = (t : Characters) (text : List ℕ) → Good t → covers t (cells_in
 pub data WithPoints : List Cluster → List Cluster → Type 0 where
   ends : WithPoints [] []
   same : (c : Cluster) {cs ds : List Cluster} → WithPoints cs ds → WithPoints (c ∷ cs) (c ∷ ds)
-  line : (c : Cluster) {cs ds : List Cluster} → c.letter ≡ newline → WithPoints cs ds → WithPoints (c ∷ cs) (single newline ∷ ds)
-  joint : (c : Cluster) {cs ds : List Cluster} → c.letter ≡ newline → WithPoints cs ds → WithPoints (c ∷ cs) (map single (codes "\\(zj\n") ++ ds)
+  joint : {cs ds : List Cluster} → WithPoints cs ds → WithPoints (single newline ∷ cs) (map single (codes "\\(zj\n") ++ ds)
   cut : {cs ds : List Cluster} → WithPoints cs ds → WithPoints cs (map single (codes "\\(zb") ++ ds)
 
 abbrev pub OnlyPoints : Type 0

@@ -15,7 +15,7 @@ use Rattle.utf8_own_stage.specs.declared.points.Line.TheVariants as lines
 use Rattle.utf8_own_stage.specs.declared.points.Place.{Place}
 use Rattle.utf8_own_stage.specs.declared.points.Point.{Point}
 use Rattle.utf8_own_stage.specs.declared.points.Point.TheVariants.{Nothing, Cut}
-use Rattle.utf8_own_stage.specs.Points.{is_open}
+use Rattle.utf8_own_stage.specs.Points.{is_open, is_waiting}
 
 -- the class of ideographs and most kana
 abbrev pub is_ideographic : LineBreak → Bool
@@ -59,6 +59,6 @@ is_printed lines.Text = true
 is_printed lines.Rest = true
 is_printed line = false
 
--- no escape or format of a table is read, and no newline waits
+-- no escape or format of a table is read, and nothing waits
 abbrev pub is_quiet : Place → Bool
-is_quiet p = is_printed p.line && is_open p && not p.waits
+is_quiet p = is_printed p.line && is_open p && not (is_waiting p.waits)

@@ -1,9 +1,11 @@
 -- Where lines of East Asian text, which has no blanks, may be cut (nroff(7), Filling): by two special
 -- characters that print nothing. What is read is text in the language of nroff, as preconv writes it.
 use Prim.Native.Char.{code}
-use Rattle.std.specs.Prelude.{ℕ, List, [], ◌∷◌, Bool, true, false, not, ◌==◌, ◌&&◌, ◌||◌, if◌then◌else◌}
+use Rattle.std.specs.Prelude.{ℕ, ◌%◌, List, [], ◌∷◌, ◌++◌, Bool, true, false, not, ◌==◌, ◌&&◌, ◌||◌, nat_le, nat_lt, if◌then◌else◌}
 use Rattle.std.specs.Prelude.{codes}
+use Rattle.utf8_own_characters.specs.declared.cluster.Cluster.{Cluster}
 use Rattle.utf8_own_characters.specs.Breaking.{is_east_asian, may_break}
+use Rattle.utf8_own_characters.specs.Cluster.{is_ascii}
 use Rattle.utf8_own_stage.specs.declared.points.Line.{Line}
 use Rattle.utf8_own_stage.specs.declared.points.Line.TheVariants as lines
 use Rattle.utf8_own_stage.specs.declared.points.Escape.{Escape}
@@ -12,7 +14,9 @@ use Rattle.utf8_own_stage.specs.declared.points.TablePlace.{TablePlace}
 use Rattle.utf8_own_stage.specs.declared.points.TablePlace.TheVariants as tables
 use Rattle.utf8_own_stage.specs.declared.points.Place.{Place}
 use Rattle.utf8_own_stage.specs.declared.points.Point.{Point}
-use Rattle.utf8_own_stage.specs.declared.points.Point.TheVariants.{Nothing, Cut, Newline, Joint}
+use Rattle.utf8_own_stage.specs.declared.points.Point.TheVariants.{Nothing, Cut, Waited, Joint}
+use Rattle.utf8_own_stage.specs.declared.points.Waiting.{Waiting}
+use Rattle.utf8_own_stage.specs.declared.points.Waiting.TheVariants as waiting
 
 abbrev pub none : ℕ
 none = 0
@@ -21,7 +25,40 @@ abbrev pub newline : ℕ
 newline = 10
 
 abbrev pub first_place : Place
-first_place = record { line = lines.Start; escape = escapes.Plain; table = tables.Nowhere; before = none; waits = false }
+first_place = record { line = lines.Start; escape = escapes.Plain; table = tables.Nowhere; before = none; waits = waiting.Nothing }
+
+-- What the language reads of a cluster: its letter. A letter of ASCII with marks is none of its own characters.
+abbrev pub read_as : Cluster → ℕ
+read_as c = if nat_lt c.letter 128 && not (is_ascii c) then code "_" else c.letter
+
+-- ---- what waits after an East Asian character for another: a newline, and a font with which the next line begins
+
+abbrev pub is_waiting : Waiting → Bool
+is_waiting waiting.Nothing = false
+is_waiting w = true
+
+abbrev pub waiting_text : Waiting → List ℕ
+waiting_text waiting.Nothing = []
+waiting_text waiting.Newline = newline ∷ []
+waiting_text waiting.Escape = newline ∷ code "\\" ∷ []
+waiting_text waiting.Name = newline ∷ code "\\" ∷ code "f" ∷ []
+waiting_text (waiting.Font name) = newline ∷ code "\\" ∷ code "f" ∷ name % 128 ∷ []
+
+abbrev pub is_font : ℕ → Bool
+is_font c = (c == code "B") || (c == code "I") || (c == code "P") || (c == code "R")
+
+-- with one character more, where that goes on a font
+abbrev pub waiting_with : Waiting → ℕ → Waiting
+waiting_with waiting.Newline c = if c == code "\\" then waiting.Escape else waiting.Nothing
+waiting_with waiting.Escape c = if c == code "f" then waiting.Name else waiting.Nothing
+waiting_with waiting.Name c = if is_font c then waiting.Font c else waiting.Nothing
+waiting_with w c = waiting.Nothing
+
+-- the newline is no blank; with a font after it, before characters from U+2E80 on
+abbrev pub joins : Waiting → ℕ → Bool
+joins waiting.Newline c = is_east_asian c
+joins (waiting.Font name) c = nat_le 0x2E80 c && is_east_asian c
+joins w c = false
 
 -- ---- what goes out before a character
 
@@ -49,26 +86,26 @@ is_open p = is_plain p.escape && not (is_format p.table)
 abbrev pub may_cut : Place → ℕ → Bool
 may_cut p c = not (c == code "\\") && is_open p && may_break p.before c
 
--- a newline between two East Asian characters is no blank
+-- what waits goes out before what does not go it on
+abbrev pub point_waiting : Waiting → ℕ → Point
+point_waiting w c = if is_waiting (waiting_with w c) then Nothing else if joins w c then Joint else Waited
+
 abbrev pub point : Place → ℕ → Point
-point p c = if p.waits then (if is_east_asian c then Joint else Newline) else if may_cut p c then Cut else Nothing
+point p c = if is_waiting p.waits then point_waiting p.waits c else if may_cut p c then Cut else Nothing
 
-abbrev pub text_of : Point → List ℕ
-text_of Nothing = []
-text_of Cut = codes "\\(zb"
-text_of Newline = newline ∷ []
-text_of Joint = codes "\\(zj\n"
+abbrev pub text_of : Waiting → Point → List ℕ
+text_of w Nothing = []
+text_of w Cut = codes "\\(zb"
+text_of w Waited = waiting_text w
+text_of w Joint = codes "\\(zj" ++ waiting_text w
 
--- so it waits for the next character; but in a row of a table a line ends its fields
+-- a newline waits for the next character; but in a row of a table a line ends its fields
 abbrev pub may_join : Place → Bool
 may_join p = is_text p.line && is_open p && not (is_rows p.table) && is_east_asian p.before
 
-abbrev pub holds : Place → ℕ → Bool
-holds p c = (c == newline) && may_join p
-
 -- where nothing comes
 abbrev pub left : Place → List ℕ
-left p = if p.waits then newline ∷ [] else []
+left p = waiting_text p.waits
 
 -- ---- the place after a character
 
@@ -84,7 +121,7 @@ line_ended p = record {
   escape = escapes.Plain;
   table = table_after p.table p.before;
   before = none;
-  waits = may_join p;
+  waits = if may_join p then waiting.Newline else waiting.Nothing;
 }
 
 -- a block ends with a line that begins with `T`
@@ -161,4 +198,4 @@ passed_by escapes.Plain c p = if c == newline then line_ended p else going_on c 
 passed_by escape c p = if c == newline then line_ended p else spelling c p
 
 abbrev pub passed : Place → ℕ → Place
-passed p c = passed_by p.escape c (record p { waits = false })
+passed p c = passed_by p.escape c (record p { waits = waiting_with p.waits c })

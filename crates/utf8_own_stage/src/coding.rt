@@ -1,12 +1,12 @@
 //! What stands for a cluster in a page's own table, and the points between clusters.
-ghost use Rattle.std.specs.Prelude.{◌≡◌, ◌+◌, ◌*◌, ◌<◌, ◌≤◌, ◌++◌, length, take};
+ghost use Rattle.std.specs.Prelude.{◌≡◌, ◌+◌, ◌*◌, ◌<◌, ◌≤◌, ◌++◌, length, nat_le, take, true};
 ghost use Rattle.utf8_own_characters.specs.Listening.{after};
 ghost use Rattle.utf8_own_characters.specs.Table.{Good};
 ghost use Rattle.utf8_own_stage.specs.Coding as specs;
-ghost use Rattle.utf8_own_stage.specs.Points.{left, passed, point, text_of};
+ghost use Rattle.utf8_own_stage.specs.Points.{left, passed, point, read_as, text_of, waiting_text};
 
 use super::plain::{is_plain, is_ready, put_plain};
-use super::points::{Place, Point};
+use super::points::{Place, Point, Waiting};
 use super::runs::{letter_of, put_letters};
 use nr_vectors::slice_vec::SliceVec;
 use preconv_characters::{Target, put_likeness};
@@ -31,23 +31,73 @@ pub(crate) fn put_cluster(cluster: &Cluster, table: &OwnTable<'_>, out: &mut Sli
     }
 }
 
-/// Puts what goes out before a character: at most 5 bytes.
+/// What the language reads of a cluster: its letter, but none of its own characters of a letter of ASCII with marks.
+#[inline(always)]
+fn read_as(cluster: &Cluster) -> char
+    ensures { result ≡ read_as cluster.now }
+{
+    if u32::from(cluster.letter) < 128 && !cluster.is_ascii() {
+        '_'
+    } else {
+        cluster.letter
+    }
+}
+
+/// Puts what waits: at most 4 bytes.
+#[inline]
+fn put_waiting(waiting: Waiting, out: &mut SliceVec<'_, u8>)
+    requires room { length out.old.items + length (waiting_text waiting) ≤ out.old.capacity }
+    ensures items { out.new.items ≡ out.old.items ++ waiting_text waiting }
+    ensures few { length out.new.items ≤ length out.old.items + length (waiting_text waiting) }
+    ensures room { out.new.capacity ≡ out.old.capacity }
+{
+    match waiting {
+        Waiting::Nothing => {}
+        Waiting::Newline => out.push(b'\n'),
+        Waiting::Escape => out.extend(b"\n\\"),
+        Waiting::Name => out.extend(b"\n\\f"),
+        Waiting::Font(name) => {
+            out.extend(b"\n\\f");
+            out.push((u32::from(name) % 128) as u8);
+        }
+    }
+}
+
+/// Puts what goes out before a character: at most 4 bytes beside what waits.
 #[inline(always)]
 fn put_point(place: &Place, character: char, out: &mut SliceVec<'_, u8>)
-    requires room { length out.old.items + 5 ≤ out.old.capacity }
-    ensures items { out.new.items ≡ out.old.items ++ text_of (point place.now character) }
-    ensures few { length out.new.items ≤ length out.old.items + 5 }
+    requires room { length out.old.items + length (waiting_text place.now.waits) + 4 ≤ out.old.capacity }
+    ensures items { out.new.items ≡ out.old.items ++ text_of place.now.waits (point place.now character) }
+    ensures few { length out.new.items ≤ length out.old.items + length (waiting_text place.now.waits) + 4 }
     ensures room { out.new.capacity ≡ out.old.capacity }
 {
     match place.point(character) {
         Point::Nothing => {}
         Point::Cut => out.extend(b"\\(zb"),
-        Point::Newline => out.push(b'\n'),
-        Point::Joint => out.extend(b"\\(zj\n"),
+        Point::Waited => put_waiting(place.waits, out),
+        Point::Joint => {
+            out.extend(b"\\(zj");
+            put_waiting(place.waits, out);
+        }
     }
 }
 
-/// Puts a cluster, if there is one, after what goes out before it: at most 26 bytes.
+/// Puts the bytes of a cluster, unless it waits.
+#[inline(always)]
+fn put_kept(cluster: &Cluster, waits: bool, table: &OwnTable<'_>, out: &mut SliceVec<'_, u8>)
+    requires good { Good table.now }
+    requires room { length out.old.items + 24 ≤ out.old.capacity }
+    ensures items { out.new.items ≡ out.old.items ++ specs.kept waits (specs.coded table.now cluster.now) }
+    ensures few { length out.new.items ≤ length out.old.items + 21 }
+    ensures fewer { nat_le 0x2E80 cluster.now.letter ≡ true → length out.new.items ≤ length out.old.items + 10 }
+    ensures room { out.new.capacity ≡ out.old.capacity }
+{
+    if !waits {
+        put_cluster(cluster, table, out);
+    }
+}
+
+/// Puts a cluster, if there is one, after what goes out before it: with what waits then at most 26 bytes.
 #[inline(always)]
 pub(crate) fn put_done(
     cluster: Option<Cluster>,
@@ -56,37 +106,36 @@ pub(crate) fn put_done(
     out: &mut SliceVec<'_, u8>,
 )
     requires good { Good table.now }
-    requires room { length out.old.items + 29 ≤ out.old.capacity }
+    requires room { length out.old.items + 32 ≤ out.old.capacity }
     ensures items { out.new.items ≡ out.old.items ++ specs.said_cluster table.now place.old cluster }
     ensures place { place.new ≡ specs.after_cluster place.old cluster }
-    ensures few { length out.new.items ≤ length out.old.items + 26 }
+    ensures few { length out.new.items + length (waiting_text place.new.waits) ≤ length out.old.items + 26 }
     ensures room { out.new.capacity ≡ out.old.capacity }
 {
     if let Some(cluster) = cluster {
-        put_point(place, cluster.letter, out);
-        if !place.holds(cluster.letter) {
-            put_cluster(&cluster, table, out);
-        }
-        place.passes(cluster.letter);
+        let letter = read_as(&cluster);
+        put_point(place, letter, out);
+        place.passes(letter);
+        put_kept(&cluster, place.waits.is_some(), table, out);
     }
 }
 
-/// Puts a byte, if there is one, after what goes out before it: at most 6 bytes.
+/// Puts a byte, if there is one, after what goes out before it: with what waited at most 6 bytes more.
 #[inline(always)]
 fn put_byte(byte: Option<u8>, place: &mut Place, out: &mut SliceVec<'_, u8>)
-    requires room { length out.old.items + 6 ≤ out.old.capacity }
+    requires room { length out.old.items + length (waiting_text place.old.waits) + 6 ≤ out.old.capacity }
     ensures items { out.new.items ≡ out.old.items ++ specs.said_byte place.old byte }
     ensures place { place.new ≡ specs.after_byte place.old byte }
-    ensures few { length out.new.items ≤ length out.old.items + 6 }
+    ensures few { length out.new.items ≤ length out.old.items + length (waiting_text place.old.waits) + 6 }
     ensures room { out.new.capacity ≡ out.old.capacity }
 {
     if let Some(byte) = byte {
         let character = char::from(byte);
         put_point(place, character, out);
-        if !place.holds(character) {
+        place.passes(character);
+        if !place.waits.is_some() {
             out.push(byte);
         }
-        place.passes(character);
     }
 }
 
@@ -224,8 +273,6 @@ pub(crate) fn put_last(
     ensures room { out.new.capacity ≡ out.old.capacity }
 {
     put_done(cluster, place, table, out);
-    if place.waits {
-        out.push(b'\n');
-    }
-    place.waits = false;
+    put_waiting(place.waits, out);
+    place.waits = Waiting::Nothing;
 }

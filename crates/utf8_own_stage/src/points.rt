@@ -59,8 +59,23 @@ pub(crate) struct Place {
     pub table: TablePlace,
     /// The character of the line that is printed before it, or NUL.
     pub before: char,
-    /// A newline waits for it, after an East Asian character.
-    pub waits: bool,
+    /// What waits for it, after an East Asian character.
+    pub waits: Waiting,
+}
+
+/// What waits for the next character: a newline, with what was read of a font after it.
+#[derive(Clone, Copy)]
+pub(crate) enum Waiting {
+    /// Nothing.
+    Nothing,
+    /// A newline.
+    Newline,
+    /// A newline and a backslash.
+    Escape,
+    /// A newline and `\f`.
+    Name,
+    /// A newline and a font of this name.
+    Font(char),
 }
 
 /// What goes out before a character.
@@ -70,10 +85,53 @@ pub(crate) enum Point {
     Nothing,
     /// A place to cut a line.
     Cut,
-    /// A newline that waited.
-    Newline,
-    /// The same, at which the word goes on.
+    /// What waited.
+    Waited,
+    /// The same, and at the newline the word goes on.
     Joint,
+}
+
+/// Whether a character names a font.
+#[inline]
+fn is_font(character: char) -> bool
+    ensures { result ≡ specs.is_font character }
+{
+    matches!(character, 'B' | 'I' | 'P' | 'R')
+}
+
+impl Waiting {
+    /// Whether something waits.
+    #[inline(always)]
+    pub(crate) fn is_some(self) -> bool
+        ensures { result ≡ specs.is_waiting self }
+    {
+        !matches!(self, Waiting::Nothing)
+    }
+
+    /// What waits with one character more, if that goes on a font after a newline.
+    #[inline]
+    fn with(self, character: char) -> Waiting
+        ensures { result ≡ specs.waiting_with self character }
+    {
+        match self {
+            Waiting::Newline if character == '\\' => Waiting::Escape,
+            Waiting::Escape if character == 'f' => Waiting::Name,
+            Waiting::Name if is_font(character) => Waiting::Font(character),
+            _ => Waiting::Nothing,
+        }
+    }
+
+    /// Whether a newline that waits is no blank before a character: one of East Asia, and with a font between them, one from U+2E80 on.
+    #[inline]
+    fn joins(self, character: char) -> bool
+        ensures { result ≡ specs.joins self character }
+    {
+        match self {
+            Waiting::Newline => is_east_asian(character),
+            Waiting::Font(_) => u32::from(character) >= 0x2E80 && is_east_asian(character),
+            _ => false,
+        }
+    }
 }
 
 impl Place {
@@ -86,7 +144,7 @@ impl Place {
             escape: Escape::Plain,
             table: TablePlace::Nowhere,
             before: '\0',
-            waits: false,
+            waits: Waiting::Nothing,
         }
     }
 
@@ -98,17 +156,27 @@ impl Place {
         character != '\\' && self.is_open() && may_break_between(self.before, character)
     }
 
+    /// What goes out before a character for which something waits.
+    #[inline(never)]
+    fn point_waiting(&self, character: char) -> Point
+        ensures { result ≡ specs.point_waiting self.now.waits character }
+    {
+        if self.waits.with(character).is_some() {
+            Point::Nothing
+        } else if self.waits.joins(character) {
+            Point::Joint
+        } else {
+            Point::Waited
+        }
+    }
+
     /// What goes out before a character.
     #[inline(always)]
     pub(crate) fn point(&self, character: char) -> Point
         ensures { result ≡ specs.point self.now character }
     {
-        if self.waits {
-            return if is_east_asian(character) {
-                Point::Joint
-            } else {
-                Point::Newline
-            };
+        if self.waits.is_some() {
+            return self.point_waiting(character);
         }
         if self.may_cut(character) {
             Point::Cut
@@ -130,7 +198,7 @@ impl Place {
     pub(crate) fn is_quiet(&self) -> bool
         ensures { result ≡ letters.is_quiet self.now }
     {
-        matches!(self.line, Line::Text | Line::Rest) && self.is_open() && !self.waits
+        matches!(self.line, Line::Text | Line::Rest) && self.is_open() && !self.waits.is_some()
     }
 
     /// Whether a newline would wait here: after an East Asian character in a text line, but not in a row of a table.
@@ -144,20 +212,16 @@ impl Place {
             && is_east_asian(self.before)
     }
 
-    /// Whether a character is a newline that waits for the next one.
-    #[inline]
-    pub(crate) fn holds(&self, character: char) -> bool
-        ensures { result ≡ specs.holds self.now character }
-    {
-        character == '\n' && self.may_join()
-    }
-
     /// The line ends. In a table the format ends with a dot, and before a block a row with a brace.
     #[inline(never)]
     fn ends(&mut self)
         ensures { self.new ≡ specs.line_ended self.old }
     {
-        self.waits = self.may_join();
+        self.waits = if self.may_join() {
+            Waiting::Newline
+        } else {
+            Waiting::Nothing
+        };
         self.table = match (self.table, self.before) {
             (TablePlace::Format, '.') => TablePlace::Rows,
             (TablePlace::Rows, '{') => TablePlace::Block,
@@ -263,7 +327,7 @@ impl Place {
     pub(crate) fn passes(&mut self, character: char)
         ensures { self.new ≡ specs.passed self.old character }
     {
-        self.waits = false;
+        self.waits = self.waits.with(character);
         match self.escape {
             Escape::Begun => self.escapes(character),
             _ if character == '\n' => self.ends(),

@@ -7,6 +7,7 @@ ghost use Rattle.utf8_own_stage.specs.Coding as coding;
 ghost use Rattle.utf8_own_stage.specs.Letters as specs;
 ghost use Rattle.utf8_own_stage.specs.Points.{passed, text_of};
 ghost use Rattle.utf8_own_stage.specs.declared.points.Point.TheVariants.{Cut};
+ghost use Rattle.utf8_own_stage.specs.declared.points.Waiting.TheVariants as waiting;
 
 use super::coding::{put_cluster, put_done};
 use super::points::Place;
@@ -61,7 +62,7 @@ pub(crate) fn letter_of(bytes: &[u8]) -> Option<char>
 fn put_cut(last: char, letter: char, both: bool, out: &mut SliceVec<'_, u8>)
     requires common { both ≡ true → specs.cut_between last letter ≡ Cut }
     requires room { length out.old.items + 5 ≤ out.old.capacity }
-    ensures items { out.new.items ≡ out.old.items ++ text_of (specs.cut_between last letter) }
+    ensures items { out.new.items ≡ out.old.items ++ text_of waiting.Nothing (specs.cut_between last letter) }
     ensures few { length out.new.items ≤ length out.old.items + 5 }
     ensures room { out.new.capacity ≡ out.old.capacity }
 {

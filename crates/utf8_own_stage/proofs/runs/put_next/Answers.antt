@@ -2,10 +2,12 @@ use Rattle.std.proofs.Common.{ℕ, List, ◌++◌, ◌∙◌, sym, ap, append_as
 use Rattle.utf8_own_characters.specs.declared.cluster.Cluster.{Cluster}
 use Rattle.utf8_own_characters.specs.Cluster.{single}
 use Rattle.utf8_own_characters.proofs.Tests.{not_both}
-use Rattle.utf8_own_stage.specs.Coding.{coded}
+use Rattle.utf8_own_stage.specs.declared.points.Waiting.TheVariants as waiting
+use Rattle.utf8_own_stage.specs.Coding.{coded, put_at}
 use Rattle.utf8_own_stage.specs.Letters.{cut_between}
 use Rattle.utf8_own_stage.specs.Points.{text_of}
 use Rattle.utf8_own_stage.proofs.Quiet.{common_cut, letter_passed, letter_put}
+use Rattle.utf8_own_stage.proofs.ReadAs.{single_read}
 use Rattle.utf8_own_stage.proofs.runs.put_next.Goals as goal
 use Rattle.utf8_own_stage.proofs.runs.put_next.Goals.{then-last, else-last}
 
@@ -28,6 +30,7 @@ returns-clause-items c =
     let l = c.args.letter in
     c.put_cluster.ensures.items
     ∙ ap (λ (zs : List ℕ). zs ++ coded t c.single.result) c.put_cut.ensures.items
-    ∙ append_assoc out (text_of (cut_between p.before l)) (coded t c.single.result)
-    ∙ ap (λ (x : Cluster). out ++ (text_of (cut_between p.before l) ++ coded t x)) c.single.ensures
+    ∙ append_assoc out (text_of waiting.Nothing (cut_between p.before l)) (coded t c.single.result)
+    ∙ ap (λ (x : Cluster). out ++ (text_of waiting.Nothing (cut_between p.before l) ++ coded t x)) c.single.ensures
     ∙ ap (λ (zs : List ℕ). out ++ zs) (sym (letter_put p l (coded t (single l)) c.requires.quiet c.requires.beyond))
+    ∙ ap (λ (n : ℕ). out ++ put_at p n (coded t (single l))) (sym (single_read l))
