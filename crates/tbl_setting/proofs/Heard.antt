@@ -15,13 +15,14 @@ use Rattle.tbl_setting.specs.declared.setting.Setting.{Setting}
 use Rattle.tbl_setting.specs.declared.watching.Around.{Around}
 use Rattle.tbl_setting.specs.declared.watching.Watch.{Watch}
 use Rattle.tbl_setting.specs.Arguments.{accepted, argument, definition_at}
+use Rattle.tbl_setting.specs.Conditions.{held_after, is_left_out}
 use Rattle.tbl_blocks.specs.Words.{name_of, request_in}
 use Rattle.tbl_setting.specs.Held.{emptied, page_heard, with_layout, with_watching}
 use Rattle.tbl_setting.specs.Lengths.{length_in}
 use Rattle.tbl_setting.specs.Margins.{or_number}
 use Rattle.tbl_setting.specs.Papers.{column_said, count_said, gap_said, half, narrowed, paper_obeyed, part_of, whole, with_paper}
 use Rattle.tbl_setting.specs.Requests.{request_of}
-use Rattle.tbl_setting.specs.Watching.{Hearing, Watching, begins_control, begun, byte_heard, control_heard, definition_heard, ends_copy, heard, hearing, is_text, line_ended, line_heard, nothing_known, obeyed_by, register_said, watching}
+use Rattle.tbl_setting.specs.Watching.{Hearing, Watching, begins_control, begun, byte_heard, control_heard, definition_heard, done_heard, ends_copy, heard, hearing, is_text, line_ended, line_heard, nothing_known, obeyed_by, register_said, watching, with_held}
 use Rattle.tbl_table.specs.Lists.{added}
 
 -- whichever is chosen
@@ -83,13 +84,19 @@ request_same cells (requests.Paper name) text h =
 request_same cells requests.Register text h = register_same cells (argument text 0) (length_in (argument text 1) Unit) h.around
 request_same cells requests.Other text h = refl
 
-control_same : (cells : ℕ) (line : List ℕ) (h : Hearing) → known cells (control_heard line h) ≡ known cells h
+done_same : (cells : ℕ) (line : List ℕ) (h : Hearing) → known cells (done_heard line h) ≡ known cells h
 unfolding known
-control_same cells line h = by_place (definition_at line)
+done_same cells line h = by_place (definition_at line)
   where
     by_place : (place : Option ℕ) → known cells (definition_heard place line h) ≡ known cells h
     by_place (Some place) = refl
     by_place None = request_same cells (request_of (name_of (accepted (request_in line)))) (accepted (request_in line)) h
+
+control_same : (cells : ℕ) (line : List ℕ) (h : Hearing) → known cells (control_heard line h) ≡ known cells h
+unfolding known
+control_same cells line h =
+    let next : Hearing = with_held (held_after (request_in line) h.around.held) h in
+    either (known cells) (is_left_out (request_in line) h.around.held) next (done_heard line next) (known cells h) refl (done_same cells line next)
 
 line_same : (cells : ℕ) (line : List ℕ) (h : Hearing) → known cells (line_heard line h) ≡ known cells h
 unfolding known

@@ -11,9 +11,10 @@ use Rattle.tbl_setting.specs.declared.requests.Request.{Request}
 use Rattle.tbl_setting.specs.declared.requests.Request.TheVariants as requests
 use Rattle.tbl_setting.specs.declared.setting.Setting.{Setting}
 use Rattle.tbl_setting.specs.Arguments.{accepted, after_arguments, after_blanks, argument, argument_len, definition_at, first_argument}
+use Rattle.tbl_setting.specs.Conditions.{held_after, is_left_out}
 use Rattle.tbl_blocks.specs.Words.{name_of, request_in}
 use Rattle.tbl_setting.specs.Requests.{request_of}
-use Rattle.tbl_setting.specs.Watching.{Hearing, Watching, begins_control, byte_heard, control_heard, definition_heard, ends_copy, heard, hearing, is_text, known_of, line_ended, line_heard, obeyed_by, register_heard, room_of, string_heard, string_number, string_of, string_set, watching}
+use Rattle.tbl_setting.specs.Watching.{Hearing, Watching, begins_control, byte_heard, control_heard, definition_heard, done_heard, ends_copy, heard, hearing, is_text, known_of, line_ended, line_heard, obeyed_by, register_heard, room_of, string_heard, string_number, string_of, string_set, watching, with_held}
 use Rattle.tbl_setting.specs.Setting.{set}
 use Rattle.tbl_setting.proofs.Pieces.{pass-set}
 use Rattle.tbl_reader.specs.declared.telling.Tell.TheVariants as tells
@@ -90,6 +91,16 @@ definition_known : (place : Option ℕ) (line : List ℕ) (h : Hearing) → Know
 definition_known (Some place) line h = strings_known (after_blanks (drop place line)) h.grid
 definition_known None line h = request_known (request_of (name_of (accepted (request_in line)))) (accepted (request_in line)) h
 
+control_known : (line : List ℕ) (h : Hearing) → Knows h.grid (control_heard line h).grid
+control_known line h = by_test (is_left_out (request_in line) h.around.held)
+  where
+    next : Hearing
+    next = with_held (held_after (request_in line) h.around.held) h
+
+    by_test : (left : Bool) → Knows h.grid (if left then next else done_heard line next).grid
+    by_test true = knows_itself h.grid
+    by_test false = definition_known (definition_at line) line next
+
 line_known : (line : List ℕ) (h : Hearing) → Knows h.grid (line_heard line h).grid
 line_known line h = by_tests h.around.copies (begins_control line)
   where
@@ -99,7 +110,7 @@ line_known line h = by_tests h.around.copies (begins_control line)
     by_tests : (a b : Bool)
         → Knows h.grid (if a then copied else if b then control_heard line h else h).grid
     by_tests true b = knows_itself h.grid
-    by_tests false true = definition_known (definition_at line) line h
+    by_tests false true = control_known line h
     by_tests false false = knows_itself h.grid
 
 byte_known : (b : ℕ) (s : Watching) → Knows s.grid (byte_heard b s).grid

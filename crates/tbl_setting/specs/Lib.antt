@@ -1,5 +1,6 @@
 pub mod Arguments
 pub mod Bounds
+pub mod Conditions
 pub mod Drawing
 pub mod Hearing
 pub mod Held

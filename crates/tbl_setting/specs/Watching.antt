@@ -15,6 +15,7 @@ use Rattle.tbl_setting.specs.declared.requests.Request.TheVariants as requests
 use Rattle.tbl_setting.specs.declared.watching.Around.{Around}
 use Rattle.tbl_setting.specs.declared.watching.Watch.{Watch}
 use Rattle.tbl_setting.specs.Arguments.{accepted, after_arguments, after_blanks, argument, argument_len, definition_at, first_argument, number_of}
+use Rattle.tbl_setting.specs.Conditions.{held_after, is_left_out}
 use Rattle.nr_units.specs.declared.units.Scale.TheVariants.{Unit}
 use Rattle.tbl_setting.specs.Lengths.{cells_said, length_in}
 use Rattle.tbl_setting.specs.Margins as margins
@@ -38,6 +39,7 @@ first_watch cells = record {
     cells = cells;
     last_cells = cells;
     copies = false;
+    held = false;
     margins = first_margins;
     paper = no_paper;
   };
@@ -55,6 +57,7 @@ nothing_known cells a = record {
   cells = cells;
   last_cells = cells;
   copies = false;
+  held = false;
   margins = no_margins a.margins;
   paper = no_paper;
 }
@@ -182,8 +185,17 @@ abbrev pub definition_heard : Option ℕ → List ℕ → Hearing → Hearing
 definition_heard (Some place) line h = hearing h.around (string_heard (after_blanks (drop place line)) h.grid)
 definition_heard None line h = request_heard (accepted (request_in line)) h
 
+abbrev pub done_heard : List ℕ → Hearing → Hearing
+done_heard line h = definition_heard (definition_at line) line h
+
+abbrev pub with_held : Bool → Hearing → Hearing
+with_held held h = hearing (record h.around { held = held }) h.grid
+
+-- a line whose request is not done changes nothing
 abbrev pub control_heard : List ℕ → Hearing → Hearing
-control_heard line h = definition_heard (definition_at line) line h
+control_heard line h =
+    let next : Hearing = with_held (held_after (request_in line) h.around.held) h in
+    if is_left_out (request_in line) h.around.held then next else done_heard line next
 
 abbrev pub is_control : ℕ → Bool
 is_control b = (b == code ".") || (b == code "'")

@@ -1,10 +1,11 @@
 //! Pages with tables are turned: what tbl_reader reads is emitted to what holds it, and goes out.
 //!
 //! It stands on nr_units, nr_vectors, utf8_characters, tbl_blocks, tbl_table, tbl_columns, tbl_drawing and tbl_reader. To read:
-//! `drawing`, `hearing`; `arguments`, `lengths`, `margins`, `requests`, `papers`, `watching`; `setting`, `press`, `turning`, `stepping`.
+//! `drawing`, `hearing`; `arguments`, `conditions`, `lengths`, `margins`, `requests`, `papers`, `watching`; `setting`, `press`, `turning`, `stepping`.
 #![tactic(auto)]
 
 mod arguments;
+mod conditions;
 mod drawing;
 mod hearing;
 mod lengths;

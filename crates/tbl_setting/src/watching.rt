@@ -7,6 +7,7 @@ ghost use Rattle.tbl_setting.specs.Watching as specs;
 use super::arguments::{
     accepted, after_arguments, after_blanks, argument, argument_len, definition_at, number_of,
 };
+use super::conditions::{held_after, is_left_out};
 use super::lengths::{cells_said, paper_cells};
 use super::margins::{INDENT, Margins, or_number};
 use super::papers::Paper;
@@ -38,6 +39,8 @@ pub(crate) struct Around {
     pub last_cells: usize,
     /// Its lines are copied, and say nothing.
     pub copies: bool,
+    /// The condition of the last `.ie` held, so that nothing of `.el` is done.
+    pub held: bool,
     pub margins: Margins,
     pub paper: Paper,
 }
@@ -100,6 +103,7 @@ impl Around {
         self.cells = cells;
         self.last_cells = cells;
         self.copies = false;
+        self.held = false;
         self.margins.begin();
         self.paper = Paper::new();
     }
@@ -221,14 +225,27 @@ impl Around {
         self.obey(request, text);
     }
 
-    /// A line that begins with a control character.
-    fn hear_control(&mut self, line: &[u8], grid: &mut Grid)
-        ensures value { specs.hearing self.new grid.new ≡ specs.control_heard line.now (specs.hearing self.old grid.old) }
+    /// A line whose request is done, or may be.
+    fn hear_done(&mut self, line: &[u8], grid: &mut Grid)
+        ensures value { specs.hearing self.new grid.new ≡ specs.done_heard line.now (specs.hearing self.old grid.old) }
         ensures room { emptied grid.new ≡ emptied grid.old }
     {
         match definition_at(line) {
             Some(place) => hear_string(after_blanks(&line[place..]), grid),
             None => self.hear_request(accepted(request_in(line)), grid),
+        }
+    }
+
+    /// A line that begins with a control character.
+    fn hear_control(&mut self, line: &[u8], grid: &mut Grid)
+        ensures value { specs.hearing self.new grid.new ≡ specs.control_heard line.now (specs.hearing self.old grid.old) }
+        ensures room { emptied grid.new ≡ emptied grid.old }
+    {
+        let request = request_in(line);
+        let left_out = is_left_out(request, self.held);
+        self.held = held_after(request, self.held);
+        if !left_out {
+            self.hear_done(line, grid);
         }
     }
 
@@ -260,6 +277,7 @@ impl Watch {
             cells,
             last_cells: cells,
             copies: false,
+            held: false,
             margins,
             paper: Paper::new(),
         };
