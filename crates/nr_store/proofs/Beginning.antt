@@ -185,18 +185,16 @@ costs_nothing gathered registers traps words no_gathered no_registers no_traps n
 
 -- ---- the elements that its parts take, one part after the other
 
-all_taken : (fewer some places limit deepest a b c d e f : ℕ) → b ≡ a + (fewer + 1 + 56) + 512 → c ≡ b + (fewer + 1) → d ≡ c + limit + (some + 1) → e ≡ d + 2 * deepest + limit + places
-    → f ≡ e + limit + (fewer + 1 + 512) + 2 * (fewer + 1) + (some + 1 + 256)
-    → f ≡ a + (limit + (some + 1) + (fewer + 1 + 56) + (fewer + 1) + deepest + deepest + limit + places + limit + (fewer + 1) + (fewer + 1) + (fewer + 1) + (some + 1) + 1280)
-all_taken fewer some places limit deepest a b c d e f names drafts pool levels beside = omega arith
+all_taken : (fewer some places limit deepest a b c d : ℕ) → b ≡ a + (fewer + 1 + 56) + 512 + (fewer + 1) → c ≡ b + limit + (some + 1) + 2 * deepest + limit + places
+    → d ≡ c + limit + (fewer + 1 + 512) + 2 * (fewer + 1) + (some + 1 + 256)
+    → d ≡ a + (limit + (some + 1) + (fewer + 1 + 56) + (fewer + 1) + deepest + deepest + limit + places + limit + (fewer + 1) + (fewer + 1) + (fewer + 1) + (some + 1) + 1280)
+all_taken fewer some places limit deepest a b c d named held beside = omega arith
 
-pub taken_by_all : (r : Room) (limit deepest a b c d e f : ℕ) → r ≡ rooms_of limit deepest → b ≡ a + r.names + 512 → c ≡ b + r.drafts → d ≡ c + r.elements + r.slots
-    → e ≡ d + 2 * r.frames + r.bytes + 9 * min r.frames (r.bytes / 16) → f ≡ e + r.gathering + (r.registers + 512) + 2 * r.traps + (r.words + 256)
-    → f ≡ a + elements_in (rooms_of limit deepest)
-taken_by_all r limit deepest a b c d e f is names drafts pool levels beside =
-    let names_taken : b ≡ a + (limit / 48 + 1 + 56) + 512 = names ∙ ap (λ (x : Room). a + x.names + 512) is in
-    let drafts_taken : c ≡ b + (limit / 48 + 1) = drafts ∙ ap (λ (x : Room). b + x.drafts) is in
-    let pool_taken : d ≡ c + limit + (limit / 16 + 1) = pool ∙ ap (λ (x : Room). c + x.elements + x.slots) is in
-    let levels_taken : e ≡ d + 2 * deepest + limit + 9 * min deepest (limit / 16) = levels ∙ ap (λ (x : Room). d + 2 * x.frames + x.bytes + 9 * min x.frames (x.bytes / 16)) is in
-    let beside_taken : f ≡ e + limit + (limit / 48 + 1 + 512) + 2 * (limit / 48 + 1) + (limit / 16 + 1 + 256) = beside ∙ ap (λ (x : Room). e + x.gathering + (x.registers + 512) + 2 * x.traps + (x.words + 256)) is in
-    all_taken (limit / 48) (limit / 16) (9 * min deepest (limit / 16)) limit deepest a b c d e f names_taken drafts_taken pool_taken levels_taken beside_taken
+pub taken_by_all : (r : Room) (limit deepest a b c d : ℕ) → r ≡ rooms_of limit deepest → b ≡ a + r.names + 512 + r.drafts
+    → c ≡ b + r.elements + r.slots + 2 * r.frames + r.bytes + 9 * min r.frames (r.bytes / 16) → d ≡ c + r.gathering + (r.registers + 512) + 2 * r.traps + (r.words + 256)
+    → d ≡ a + elements_in (rooms_of limit deepest)
+taken_by_all r limit deepest a b c d is named held beside =
+    let named_taken : b ≡ a + (limit / 48 + 1 + 56) + 512 + (limit / 48 + 1) = named ∙ ap (λ (x : Room). a + x.names + 512 + x.drafts) is in
+    let held_taken : c ≡ b + limit + (limit / 16 + 1) + 2 * deepest + limit + 9 * min deepest (limit / 16) = held ∙ ap (λ (x : Room). b + x.elements + x.slots + 2 * x.frames + x.bytes + 9 * min x.frames (x.bytes / 16)) is in
+    let beside_taken : d ≡ c + limit + (limit / 48 + 1 + 512) + 2 * (limit / 48 + 1) + (limit / 16 + 1 + 256) = beside ∙ ap (λ (x : Room). c + x.gathering + (x.registers + 512) + 2 * x.traps + (x.words + 256)) is in
+    all_taken (limit / 48) (limit / 16) (9 * min deepest (limit / 16)) limit deepest a b c d named_taken held_taken beside_taken

@@ -1,11 +1,13 @@
 // A store with nothing but the requests.
-ghost use Rattle.std.specs.Prelude.{◌≡◌, ◌+◌, ◌*◌, ◌^◌, ◌<◌, ◌≤◌, [], length, IfOk};
+ghost use Rattle.std.specs.Prelude.{◌≡◌, ◌+◌, ◌*◌, ◌/◌, ◌^◌, ◌<◌, ◌≤◌, [], length, min, replicate, IfOk};
+ghost use Rattle.nr_pool.specs.Texts.{no_text};
 ghost use Rattle.nr_levels.specs.Gathering.{none_gathered};
 ghost use Rattle.nr_store.specs.declared.request.TheConstants.{REQUESTS};
 ghost use Rattle.nr_store.specs.Store.{nothing};
 ghost use Rattle.nr_store.specs.Memory.{rooms_of, elements_in};
 ghost use Rattle.nr_store.specs.Request.{request_names, with_senses};
 
+use crate::element::{Draft, Element};
 use crate::memory::Room;
 use crate::named::Sense;
 use crate::register::Register;
@@ -26,6 +28,86 @@ fn name_requests(names: &mut SymbolTable<Sense>, requests: &[(u8, u8, Request)])
     for entry in requests {
         let (first, second, request) = *entry;
         let _ = names.put(Name::of(&[first, second]), Sense::Request(request));
+    }
+}
+
+// The names of a store, and its texts that are being built.
+struct Named {
+    names: SymbolTable<Sense>,
+    drafts: Stack<Draft>,
+}
+
+// Derived, it would be gone through part by part in the proof of `Store::new`.
+impl Drop for Named {
+    fn drop(self) {
+        let Named {
+            names: _,
+            drafts: _,
+        } = self;
+    }
+}
+
+impl Named {
+    // The requests under their names, and room for so much.
+    fn new(alloc: &mut CountedAlloc, room: Room) -> Result<Named, AllocError>
+        requires { length REQUESTS ≤ room.names }
+        ensures names { IfOk result (λ made. made.names ≡ record { entries = with_senses REQUESTS []; capacity = room.names }) }
+        ensures drafts { IfOk result (λ made. made.drafts ≡ record { items = []; capacity = room.drafts }) }
+        ensures taken { IfOk result (λ made. alloc.new ≡ alloc.old + room.names + 512 + room.drafts) }
+    {
+        let mut names = SymbolTable::new(alloc, room.names)?;
+        name_requests(&mut names, &REQUESTS);
+        let drafts = Stack::new(alloc, room.drafts)?;
+        Ok(Named { names, drafts })
+    }
+
+    // They, each by itself.
+    fn into_parts(self) -> (SymbolTable<Sense>, Stack<Draft>)
+        ensures names { result.0 ≡ self.names }
+        ensures drafts { result.1 ≡ self.drafts }
+    {
+        let Named { names, drafts } = self;
+        (names, drafts)
+    }
+}
+
+// The texts of a store, and its levels.
+struct Held<K: Copy> {
+    pool: Pool<Element>,
+    levels: Levels<K>,
+}
+
+// Derived, it would be gone through part by part in the proof of `Store::new`.
+impl<K: Copy> Drop for Held<K> {
+    fn drop(self) {
+        let Held { pool: _, levels: _ } = self;
+    }
+}
+
+impl<K: Copy> Held<K> {
+    // Nothing, and room for so much.
+    fn new(alloc: &mut CountedAlloc, room: Room) -> Result<Held<K>, AllocError>
+        requires elements { room.elements < 2 ^ 32 }
+        requires slots { room.slots < 2 ^ 32 }
+        requires bytes { room.bytes < 2 ^ 32 }
+        ensures capacity { IfOk result (λ made. made.pool.capacity ≡ room.elements) }
+        ensures empty { IfOk result (λ made. made.pool.texts ≡ replicate room.slots no_text) }
+        ensures levels { IfOk result (λ made. made.levels ≡ record { levels = []; arguments = []; capacity = room.bytes; most = room.frames }) }
+        ensures taken { IfOk result (λ made. alloc.new ≡ alloc.old + room.elements + room.slots + 2 * room.frames + room.bytes
+            + 9 * min room.frames (room.bytes / 16)) }
+    {
+        let pool = Pool::new(alloc, room.elements, room.slots)?;
+        let levels = Levels::new(alloc, room.bytes, room.frames)?;
+        Ok(Held { pool, levels })
+    }
+
+    // They, each by itself.
+    fn into_parts(self) -> (Pool<Element>, Levels<K>)
+        ensures pool { result.0 ≡ self.pool }
+        ensures levels { result.1 ≡ self.levels }
+    {
+        let Held { pool, levels } = self;
+        (pool, levels)
     }
 }
 
@@ -70,17 +152,16 @@ impl<K: Copy> Store<K> {
         ensures taken { IfOk result (λ made. alloc.new ≡ alloc.old + elements_in (rooms_of limit deepest)) }
     {
         let room = Room::of(limit, deepest);
-        let mut names = SymbolTable::new(alloc, room.names)?;
-        name_requests(&mut names, &REQUESTS);
-        let drafts = Stack::new(alloc, room.drafts)?;
-        let pool = Pool::new(alloc, room.elements, room.slots)?;
-        let levels = Levels::new(alloc, room.bytes, room.frames)?;
+        let named = Named::new(alloc, room)?;
+        let held = Held::new(alloc, room)?;
         let Beside {
             gathering,
             registers,
             traps,
             words,
         } = Beside::new(alloc, room)?;
+        let (names, drafts) = named.into_parts();
+        let (pool, levels) = held.into_parts();
         Ok(Store {
             pool,
             names,
