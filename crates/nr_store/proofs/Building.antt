@@ -1,5 +1,5 @@
 -- Lemmas on texts that are being built.
-use Rattle.std.proofs.Common.{◌≡◌, ◌≢◌, ℕ, ◌+◌, ◌*◌, ◌<◌, ◌≤◌, List, [], ◌∷◌, ◌++◌, length, map, drop, sum_by, Option, Some, Ok, Err, refl, ap, ap₂, sym, ◌∙◌, subst, inl, inr, arith}
+use Rattle.std.proofs.Common.{◌≡◌, ◌≢◌, ℕ, ◌+◌, ◌*◌, ◌<◌, ◌≤◌, List, [], ◌∷◌, ◌++◌, length, map, drop, sum_by, Option, None, Some, Ok, Err, refl, ap, ap₂, sym, ◌∙◌, subst, inl, inr, arith}
 use Rattle.std.specs.List.{slice_get}
 use Rattle.std.proofs.lemmas.List.{length-set, length-append, length-map}
 use Rattle.std.proofs.lemmas.List.Sums.{sum_by-cons}
@@ -59,6 +59,25 @@ is_within p names drafts levels beside charge limit v h view =
     let mapped = length-map levels.levels (level_of p) in
     let deep = h.deep in
     record { charged = sym (ap charge_of view) ∙ sym h.charged; same_limit = sym (ap (λ (w : Stored _). w.limit) view); within = h.within; deep = omega arith }
+
+-- ---- where no text is being built
+
+none_built : (p : Texts Element) (drafts : List Draft) (built : List Built) → map (built_of p) drafts ≡ built → slice_get drafts 0 ≡ None → built ≡ []
+none_built p [] built same none = sym same
+none_built p (d ∷ ds) built same none = cc
+
+pub nothing_built : {K : Type 0} (f : Built → Built) (p : Texts Element) (drafts : List Draft) (v : Stored K) → map (built_of p) drafts ≡ v.building → slice_get drafts 0 ≡ None
+    → record v { building = on_newest f v.building } ≡ v
+nothing_built {K} f p drafts v same none =
+    let empty = none_built p drafts v.building same none in
+    ap (λ (bs : List Built). let w : Stored K = record v { building = on_newest f bs } in w) empty ∙ sym (ap (λ (bs : List Built). let w : Stored K = record v { building = bs } in w) empty)
+
+pub nothing_afforded : {K X : Type 0} (x : X) (v new : Stored K) (charge limit : ℕ) → new ≡ v → Within v charge limit → afforded new x ≡ Ok x
+nothing_afforded x v new charge limit same w =
+    let charged = w.charged in
+    let limits = w.same_limit in
+    let within = w.within in
+    ap (λ (u : Stored _). afforded u x) same ∙ affordable v x (omega arith)
 
 -- ---- charges
 

@@ -2,7 +2,7 @@ use Rattle.std.proofs.Common.{[], ◌∷◌, drop, ap, sym, ◌∙◌, refl, ari
 use Rattle.nr_store.specs.Holders.{beside_of}
 use Rattle.nr_store.specs.Store.{Stored, charge_of, added}
 use Rattle.nr_store.proofs.Keeping.{room_for_elements}
-use Rattle.nr_store.proofs.Building.{cons_of, is_within, unaffordable, affordable, one_holder, charge_of-added, added_is, added_stands}
+use Rattle.nr_store.proofs.Building.{cons_of, is_within, unaffordable, affordable, nothing_afforded, nothing_built, one_holder, charge_of-added, added_is, added_stands}
 use Rattle.nr_store.proofs.store.Store.add.Goals as goal
 
 pub returns-then-self-clause-answer : goal.returns-then-self-clause-answer
@@ -50,3 +50,15 @@ pub returns-clause-ok : goal.returns-clause-ok
 returns-clause-ok g c =
     let s = c.self.inside in
     rw c.in-Ok.ensures.ok (added_is s.pool s.names s.drafts s.levels (beside_of s.gathering s.registers s.traps s.words) s.charge s.stored c.in-Some.draft (drop 1 s.drafts.items) (c.args.element ∷ []) c.self.invariant (cons_of _ _ (sym c.top.ensures ∙ c.in-Some.is)) ∙ ap (added (c.args.element ∷ [])) c.self.view_is)
+
+pub returns-in_default-clause-ok : goal.returns-in_default-clause-ok
+returns-in_default-clause-ok g c =
+    let s = c.self.inside in
+    sym (nothing_built _ s.pool s.drafts.items c.args.self.now (ap (λ (v : Stored _). v.building) c.self.view_is) (sym c.top.ensures ∙ c.in_default.is))
+
+pub returns-in_default-clause-answer : goal.returns-in_default-clause-answer
+returns-in_default-clause-answer g c =
+    let s = c.self.inside in
+    let none = sym c.top.ensures ∙ c.in_default.is in
+    sym (nothing_afforded tt c.args.self.now (added (c.args.element ∷ []) c.args.self.now) s.charge s.stored (nothing_built _ s.pool s.drafts.items c.args.self.now (ap (λ (v : Stored _). v.building) c.self.view_is) none)
+    (is_within s.pool s.names s.drafts s.levels (beside_of s.gathering s.registers s.traps s.words) s.charge s.stored c.args.self.now c.self.invariant c.self.view_is))

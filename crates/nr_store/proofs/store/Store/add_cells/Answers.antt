@@ -4,7 +4,7 @@ use Rattle.nr_store.specs.Holders.{beside_of}
 use Rattle.nr_store.specs.Store.{Stored, charge_of, added}
 use Rattle.nr_store.specs.declared.element.Element.TheVariants as elements
 use Rattle.nr_store.proofs.Keeping.{room_for_elements}
-use Rattle.nr_store.proofs.Building.{cons_of, is_within, unaffordable, affordable, one_holder, charge_of-added, added_is, added_stands}
+use Rattle.nr_store.proofs.Building.{cons_of, is_within, unaffordable, affordable, nothing_afforded, nothing_built, one_holder, charge_of-added, added_is, added_stands}
 use Rattle.nr_store.proofs.store.Store.add_cells.Goals as goal
 
 pub returns-then-room-cells-clause-answer : goal.returns-then-room-cells-clause-answer
@@ -63,3 +63,15 @@ returns-clause-ok g c =
     let s = c.self.inside in
     let xs = map elements.Cell c.args.cells.now in
     rw c.append_all.ensures (added_is s.pool s.names s.drafts s.levels (beside_of s.gathering s.registers s.traps s.words) s.charge s.stored c.in-Some.draft (drop 1 s.drafts.items) xs c.self.invariant (cons_of _ _ (sym c.top.ensures ∙ c.in-Some.is)) ∙ ap (added xs) c.self.view_is)
+
+pub returns-in_default-clause-ok : goal.returns-in_default-clause-ok
+returns-in_default-clause-ok g c =
+    let s = c.self.inside in
+    sym (nothing_built _ s.pool s.drafts.items c.args.self.now (ap (λ (v : Stored _). v.building) c.self.view_is) (sym c.top.ensures ∙ c.in_default.is))
+
+pub returns-in_default-clause-answer : goal.returns-in_default-clause-answer
+returns-in_default-clause-answer g c =
+    let s = c.self.inside in
+    let none = sym c.top.ensures ∙ c.in_default.is in
+    sym (nothing_afforded tt c.args.self.now (added (map elements.Cell c.args.cells.now) c.args.self.now) s.charge s.stored (nothing_built _ s.pool s.drafts.items c.args.self.now (ap (λ (v : Stored _). v.building) c.self.view_is) none)
+    (is_within s.pool s.names s.drafts s.levels (beside_of s.gathering s.registers s.traps s.words) s.charge s.stored c.args.self.now c.self.invariant c.self.view_is))

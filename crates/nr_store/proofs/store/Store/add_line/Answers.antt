@@ -4,7 +4,7 @@ use Rattle.std.specs.Option.{option_map}
 use Rattle.nr_store.specs.Holders.{beside_of}
 use Rattle.nr_store.specs.Store.{Stored, charge_of, line_of, taken, diverted}
 use Rattle.nr_store.proofs.Keeping.{room_for_elements}
-use Rattle.nr_store.proofs.Building.{cons_of, is_within, unaffordable, affordable, one_holder, grown_is, grown_stands}
+use Rattle.nr_store.proofs.Building.{cons_of, is_within, unaffordable, affordable, nothing_afforded, nothing_built, one_holder, grown_is, grown_stands}
 use Rattle.nr_store.proofs.Lines.{length-line_of, diverted_is, charge_of-diverted}
 use Rattle.nr_store.proofs.store.Store.add_line.Goals as goal
 
@@ -66,3 +66,15 @@ invariant_of-self g c =
 
 pub set_top-requires : goal.set_top-requires
 set_top-requires g c = grind (arith, common_steps)
+
+pub returns-in_default-clause-ok : goal.returns-in_default-clause-ok
+returns-in_default-clause-ok g c =
+    let s = c.self.inside in
+    sym (nothing_built _ s.pool s.drafts.items c.args.self.now (ap (λ (v : Stored _). v.building) c.self.view_is) (sym c.top.ensures ∙ c.in_default.is))
+
+pub returns-in_default-clause-answer : goal.returns-in_default-clause-answer
+returns-in_default-clause-answer g c =
+    let s = c.self.inside in
+    let none = sym c.top.ensures ∙ c.in_default.is in
+    sym (nothing_afforded tt c.args.self.now (diverted c.args.indent c.args.cells.now c.args.height c.args.self.now) s.charge s.stored (nothing_built _ s.pool s.drafts.items c.args.self.now (ap (λ (v : Stored _). v.building) c.self.view_is) none)
+    (is_within s.pool s.names s.drafts s.levels (beside_of s.gathering s.registers s.traps s.words) s.charge s.stored c.args.self.now c.self.invariant c.self.view_is))
