@@ -82,11 +82,15 @@ impl<K: Copy> Levels<K> {
         ensures taken { IfOk result (λ made.
             alloc.new ≡ alloc.old + 2 * most + capacity + 9 * min most (capacity / 16)) }
     {
+        let bytes = FixedVec::new(alloc, capacity)?;
+        let places = FixedVec::new(alloc, 9 * most.min(capacity / 16))?;
+        let modes = Stack::new(alloc, most)?;
+        let frames = Stack::new(alloc, most)?;
         Ok(Levels {
-            frames: Stack::new(alloc, most)?,
-            modes: Stack::new(alloc, most)?,
-            bytes: FixedVec::new(alloc, capacity)?,
-            places: FixedVec::new(alloc, 9 * most.min(capacity / 16))?,
+            frames,
+            modes,
+            bytes,
+            places,
             in_force: Span { first: 0, last: 0 },
         })
     }
