@@ -257,17 +257,24 @@ impl Grid {
         let bytes = most.saturating_add(row).saturating_add(64);
         let rows = most / COLUMNS + 2;
         let cells = rows.saturating_mul(COLUMNS);
-        let table = Table::new(alloc, most, row, signs)?;
+        let numbers = FixedVec::new(alloc, cells)?;
+        let placed = FixedVec::new(alloc, rows)?;
+        let columns = FixedVec::new(alloc, COLUMNS)?;
+        let texts = FixedVec::new(alloc, cells)?;
+        let registers = FixedVec::new(alloc, REGISTERS)?;
+        let cells = FixedVec::new(alloc, cells)?;
         let blocks = Blocks::new(alloc, bytes, bytes, STRINGS)?;
+        // Last, as it has the most parts: what may fail after it would give each back.
+        let table = Table::new(alloc, most, row, signs)?;
         Ok(Grid {
             table,
             blocks,
-            cells: FixedVec::new(alloc, cells)?,
-            numbers: FixedVec::new(alloc, cells)?,
-            placed: FixedVec::new(alloc, rows)?,
-            columns: FixedVec::new(alloc, COLUMNS)?,
-            texts: FixedVec::new(alloc, cells)?,
-            registers: FixedVec::new(alloc, REGISTERS)?,
+            cells,
+            numbers,
+            placed,
+            columns,
+            texts,
+            registers,
             room,
             spreads: true,
             narrowed: false,

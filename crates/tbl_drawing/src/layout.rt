@@ -120,12 +120,16 @@ impl Layout {
         let rows = most / COLUMNS + 2;
         let items = rows * 2 + 2 * LINES;
         let cells = rows.saturating_mul(COLUMNS);
+        let steps = FixedVec::new(alloc, items * 4 + 4)?;
+        let talls = FixedVec::new(alloc, rows)?;
+        let begins = FixedVec::new(alloc, cells)?;
+        // Last, as it has the most parts: what may fail after it would give each back.
         let grid = Grid::new(alloc, most, row, signs, room)?;
         Ok(Layout {
             grid,
-            steps: FixedVec::new(alloc, items * 4 + 4)?,
-            talls: FixedVec::new(alloc, rows)?,
-            begins: FixedVec::new(alloc, cells)?,
+            steps,
+            talls,
+            begins,
             begun: false,
             measured: false,
             uneven: false,
