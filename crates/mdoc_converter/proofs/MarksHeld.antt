@@ -10,7 +10,8 @@ use Rattle.mdoc_layout.specs.declared.page.Scan.TheVariants as scans
 use Rattle.mdoc_words.specs.Calls.{is_enclosure_pending, is_pending, leaves}
 use Rattle.mdoc_words.specs.Meanings.{begins_anew, is_opened_by, is_pending_from}
 use Rattle.mdoc_words.specs.Rules.{prefix, with_call, with_scan}
-use Rattle.mdoc_words.specs.Words.{closing_mark, holding, is_closing, is_prefix, is_text, mark, mark_as_word, marked_or, most_marks, parsed, stands, taken_after_mark, taken_by_same, takes_marks}
+use Rattle.mdoc_words.specs.Taking.{is_prefix}
+use Rattle.mdoc_words.specs.Words.{closing_mark, holding, is_closing, is_text, mark, mark_as_word, marked_or, most_marks, parsed, stands, taken_after_mark, taken_by_same, takes_marks}
 use Rattle.mdoc_layout.specs.Laying.{with_lay}
 use Rattle.mdoc_layout.specs.LayingOut.{lay_out}
 use Rattle.mdoc_converter.specs.Reading.{State, said}

@@ -11,8 +11,7 @@ use Rattle.mdoc_layout.specs.declared.page.Page.{Page}
 use Rattle.mdoc_words.specs.Calls.{is_enclosure_pending, is_pending}
 use Rattle.mdoc_words.specs.Meanings.{is_opened_by, is_pending_from}
 use Rattle.mdoc_words.specs.Rules.{is_none}
-use Rattle.mdoc_words.specs.Taking.{is_bar, is_opening}
-use Rattle.mdoc_words.specs.Words.{is_prefix}
+use Rattle.mdoc_words.specs.Taking.{is_bar, is_opening, is_prefix}
 use Rattle.mdoc_words.specs.Keeping.{ends_in_hyphen, has_dashes, is_title, looks_up}
 use Rattle.mdoc_words.specs.Options.{is_heading, reads_for}
 use Rattle.mdoc_converter.specs.WrittenLines.{is_held, is_hyphen, is_named, kept_first, kept_letter, Letter, Plain, Escape, prints_otherwise, Way, Usual, Titled, Authors, Headed, way_of, way_of_part, said_of, holds_hyphen}

@@ -15,7 +15,7 @@ use Rattle.mdoc_layout.specs.declared.seen.Seen.{Seen}
 use Rattle.mdoc_words.specs.Calls.{call, called, called_by, calls, encloses_address, ends_cell, is_enclosure_pending, is_pending, joining, leaves, opens_address, taking}
 use Rattle.mdoc_words.specs.Meanings.{is_callable, joins_next}
 use Rattle.mdoc_words.specs.Rules.{is_none, seen_with, with_scan}
-use Rattle.mdoc_words.specs.Taking.{argument, is_bar, is_opening, some_taken, taken_word}
+use Rattle.mdoc_words.specs.Taking.{argument, is_bar, is_opening, is_prefix, some_taken, taken_word}
 use Rattle.mdoc_words.specs.Words.{closing_mark, marked_or, parsed, read_or_called, unmarked}
 use Rattle.mdoc_layout.specs.Laying.{put_closing, was_put, with_lay}
 use Rattle.mdoc_layout.specs.LayingOut.{lay_out}
@@ -307,7 +307,8 @@ argument_by first second p =
     if first then leaves p else
     if second then leaves p else
     if is_bar p.word then offered q (left (acts.Word Roman)) else
-    if is_opening p.word then offered q (three (acts.Word Roman) acts.Join acts.Nothing) else
+    if is_opening p.word && not (is_prefix p.call.taker)
+    then offered q (three (acts.Word Roman) acts.Join acts.Nothing) else
     seen_with (some_taken (taken_word q).page) (taken_word q)
 
 argument_is : (p : Page) → argument false p ≡ argument_by (is_bar p.word && is_pending p) (is_enclosure_pending p && not (is_opening p.word)) p
@@ -338,8 +339,8 @@ argument_out p f =
     let o = taken_out q f in
     out_when (is_bar p.word) _ _ q (said_of way p.word)
     (λ h. out_same _ q p.word (said_of way p.word) (said_bar way p.word h) (said_in Roman q q (same_page q f)))
-    (out_when (is_opening p.word) _ _ q (said_of way p.word)
-    (λ h. out_same _ q p.word (said_of way p.word) (said_opening way p.word h)
+    (out_when (is_opening p.word && not (is_prefix p.call.taker)) _ _ q (said_of way p.word)
+    (λ h. out_same _ q p.word (said_of way p.word) (said_opening way p.word (and_left (is_opening p.word) (not (is_prefix p.call.taker)) h))
     (out q q (acts.Word Roman) acts.Join acts.Nothing q.word refl refl refl (append-nil q.word) (same_page q f)))
     (record {
       x = o.x;

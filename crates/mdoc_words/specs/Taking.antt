@@ -3,6 +3,8 @@ use Rattle.std.specs.Prelude.{ℕ, List, [], ◌∷◌, Bool, true, false, not, 
 use Prim.Native.Char.{code}
 use Rattle.mdoc_layout.specs.declared.acts.Act.TheVariants as acts
 use Rattle.mdoc_layout.specs.declared.macros.Font.TheVariants.{Roman}
+use Rattle.mdoc_layout.specs.declared.macros.Macro.{Macro}
+use Rattle.mdoc_layout.specs.declared.macros.Macro.TheVariants as macros
 use Rattle.mdoc_layout.specs.declared.page.Page.{Page}
 use Rattle.mdoc_layout.specs.declared.page.Scan.TheVariants as scans
 use Rattle.mdoc_words.specs.Calls.{is_enclosure_pending, is_pending, leaves}
@@ -23,6 +25,11 @@ is_bar [] = false
 is_bar (b ∷ []) = b == code "|"
 is_bar (a ∷ b ∷ rest) = false
 
+-- an opening mark is the prefix itself
+abbrev pub is_prefix : Macro → Bool
+is_prefix macros.Prefix = true
+is_prefix m = false
+
 unfoldable pub taken_word : Page → Offered
 taken_word p = taken_by p.call.taker p
 
@@ -35,5 +42,6 @@ argument quoted p =
     if not quoted && is_bar p.word && is_pending p then leaves p else
     if is_enclosure_pending p && (quoted || not (is_opening p.word)) then leaves p else
     if not quoted && is_bar p.word then offered q (left (acts.Word Roman)) else
-    if not quoted && is_opening p.word then offered q (two (acts.Word Roman) acts.Join) else
+    if not quoted && is_opening p.word && not (is_prefix p.call.taker)
+    then offered q (two (acts.Word Roman) acts.Join) else
     seen_with (some_taken (taken_word q).page) (taken_word q)

@@ -19,7 +19,7 @@ use Rattle.mdoc_layout.specs.declared.seen.Seen.{Seen}
 use Rattle.mdoc_words.specs.Calls.{call, called_by, is_enclosure_pending, is_pending, leaves}
 use Rattle.mdoc_words.specs.Meanings.{begins_anew}
 use Rattle.mdoc_words.specs.Rules.{is_none, prefix, seen_with, with_call, with_scan}
-use Rattle.mdoc_words.specs.Taking.{argument}
+use Rattle.mdoc_words.specs.Taking.{argument, is_prefix}
 use Rattle.mdoc_words.specs.Options.{is_heading, option, reads_options}
 use Rattle.mdoc_layout.specs.Seeing.{Offered, offered, left, two, three}
 
@@ -52,14 +52,15 @@ holding b p =
       call = record p.call { taker = taken_after_mark p.call.taker; some = true; listed = false };
     }
 
-abbrev pub is_prefix : Macro → Bool
-is_prefix macros.Prefix = true
-is_prefix m = false
-
 abbrev pub takes_marks : Macro → Bool
 takes_marks (macros.Words font) = true
 takes_marks macros.SectionName = true
 takes_marks macros.Subsection = true
+takes_marks macros.Parameter = true
+takes_marks macros.ResultType = true
+takes_marks macros.Variable = true
+takes_marks macros.Configuration = true
+takes_marks macros.Declaration = true
 takes_marks m = is_prefix m
 
 -- a closing mark that comes first is a word for some macros

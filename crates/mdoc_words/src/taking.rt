@@ -5,7 +5,7 @@ ghost use Rattle.mdoc_words.specs.Taking as specs;
 
 use super::calls::{is_enclosure_pending, is_pending, leaves};
 use super::meanings::{meaning_of, taken_as};
-use mdoc_layout::{Act, Font, Page, Scan, Seen};
+use mdoc_layout::{Act, Font, Macro, Page, Scan, Seen};
 
 /// Whether a word is an opening mark.
 fn is_opening(word: &[u8]) -> bool
@@ -42,7 +42,8 @@ pub(crate) fn argument(page: &mut Page, quoted: bool) -> Seen
     if !quoted && is_bar(page.word.as_bytes()) {
         return Seen::left(Act::Word(Font::Roman));
     }
-    if !quoted && is_opening(page.word.as_bytes()) {
+    let prefix = matches!(page.call.taker, Macro::Prefix);
+    if !quoted && is_opening(page.word.as_bytes()) && !prefix {
         return Seen::two(Act::Word(Font::Roman), Act::Join);
     }
     let seen = taken(page);

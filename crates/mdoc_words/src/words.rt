@@ -155,7 +155,15 @@ fn is_text(page: &Page) -> bool
     !page.call.some
         && matches!(
             page.call.taker,
-            Macro::Words(_) | Macro::SectionName | Macro::Subsection | Macro::Prefix
+            Macro::Words(_)
+                | Macro::SectionName
+                | Macro::Subsection
+                | Macro::Parameter
+                | Macro::ResultType
+                | Macro::Variable
+                | Macro::Configuration
+                | Macro::Declaration
+                | Macro::Prefix
         )
 }
 
