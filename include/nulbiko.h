@@ -27,7 +27,8 @@
  * Time. Every call ends. `moves` is how many moves or steps it made; nulbiko_tbl and the calls with a page's own table count none.
  * nulbiko_document and nulbiko_format make at most as many as the limit `moves` says, and at most 256 * (expansions + 1) * (stored + cells +
  * depth + 4) between two bytes that are formatted, those of the macros too. The second is far above what a service waits
- * for, so it sets the first: 10^8 moves take some two seconds.
+ * for, so it sets the first: 10^8 moves mostly take some two seconds. A text that adds to two long strings in turn copies
+ * them with each move, and takes far longer: a service limits the seconds of a processor too.
  */
 #ifndef NULBIKO_H
 #define NULBIKO_H
@@ -117,7 +118,7 @@ struct nulbiko_limits {
     uint64_t moves;      /* All moves: a byte of text is two. 64 to 2^64 - 1, which takes thousands of years. */
 };
 
-/* nroff's own limits, and those for a stranger's page, which ends after seconds. */
+/* nroff's own limits, and those for a stranger's page. */
 #define NULBIKO_LIMITS {sizeof(struct nulbiko_limits), 262144, 256, 65536, 1000000, UINT64_MAX}
 #define NULBIKO_LIMITS_OF_STRANGERS {sizeof(struct nulbiko_limits), 262144, 64, 65536, 10000, 100000000}
 
