@@ -107,6 +107,13 @@ fn rows() -> &'static [Case] {
             bytes: 1,
         },
         Case {
+            text: "1\u{327} \\s1\u{327}",
+            shown: "1\u{327} \\s1",
+            narrow: 1,
+            wide: 0,
+            bytes: 5,
+        },
+        Case {
             text: "\\fBe\u{301}",
             shown: "\\fBe",
             narrow: 0,

@@ -1,4 +1,5 @@
 -- The clusters of a text in which escapes stand.
+use Prim.Native.Char.{code}
 use Rattle.std.specs.Prelude.{ℕ, ◌%◌, get_or, List, [], ◌∷◌, ◌++◌, Bool, true, false, not, ◌==◌, ◌&&◌, ◌||◌, nat_le, nat_lt, if◌then◌else◌, Option, None, Some}
 use Rattle.utf8_own_characters.specs.declared.cluster.Cluster.{Cluster}
 use Rattle.utf8_own_characters.specs.declared.listening.Listener.{Listener}
@@ -15,18 +16,18 @@ is_within first last c = nat_le first c && nat_le c last
 abbrev pub is_unseen : ℕ → Bool
 is_unseen c = is_within 0x200B 0x200F c || is_within 0x202A 0x202E c || is_within 0x2060 0x206F c || (c == 0xFEFF)
 
-abbrev pub is_letter : ℕ → Bool
-is_letter c = is_within 0x41 0x5A c || is_within 0x61 0x7A c
+abbrev pub is_letter_or_digit : ℕ → Bool
+is_letter_or_digit c = is_within (code "A") (code "Z") c || is_within (code "a") (code "z") c || is_within (code "0") (code "9") c
 
--- marks come on a letter of ASCII that is no part of an escape, and on all beyond ASCII
+-- marks come on a letter or digit of ASCII that is no part of an escape, and on all beyond ASCII
 abbrev pub takes_marks : ℕ → Bool → Bool
-takes_marks c is_plain = if nat_lt c 128 then is_plain && is_letter c else true
+takes_marks c is_plain = if nat_lt c 128 then is_plain && is_letter_or_digit c else true
 
 -- a word in which a backslash stood may end in an escape's name
 abbrev pub plain_after : ℕ → Bool → Bool
 plain_after c is_plain =
-    if c == 0x5C then false else
-    if nat_le c 0x20 then true else is_plain || nat_le 128 c
+    if c == code "\\" then false else
+    if nat_le c (code " ") then true else is_plain || nat_le 128 c
 
 abbrev pub first : Listener
 first = record { part = none; held = None; is_plain = true }

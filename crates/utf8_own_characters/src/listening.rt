@@ -13,7 +13,7 @@ pub struct Listener {
     pub part: Part,
     /// A letter, on which marks may come.
     pub held: Option<Cluster>,
-    /// No backslash stands before in the word, so that letters are no names of escapes.
+    /// No backslash stands before in the word, so that letters and digits are no parts of escapes.
     pub is_plain: bool,
 }
 
@@ -23,7 +23,7 @@ pub struct Listened {
     pub listener: Listener,
     /// The cluster that ends before it, if one does.
     pub done: Option<Cluster>,
-    /// A byte of ASCII after that, if it is no letter on which marks may come.
+    /// A byte of ASCII after that, if no marks may come on it.
     pub byte: Option<u8>,
 }
 
@@ -38,14 +38,13 @@ fn is_unseen(character: char) -> bool
     )
 }
 
-/// Whether marks may come on a character: on a letter of ASCII that is no part of an escape, and on all beyond ASCII.
+/// Whether marks may come on a character: on a letter or digit of ASCII that is no part of an escape, and on all beyond ASCII.
 #[inline(always)]
 pub(crate) fn takes_marks(character: char, is_plain: bool) -> bool
     ensures { result ≡ specs.takes_marks character is_plain }
 {
-    let code = u32::from(character);
-    if code < 128 {
-        return is_plain && matches!(code, 0x41..=0x5A | 0x61..=0x7A);
+    if u32::from(character) < 128 {
+        return is_plain && matches!(character, 'A'..='Z' | 'a'..='z' | '0'..='9');
     }
     true
 }
@@ -55,10 +54,10 @@ pub(crate) fn takes_marks(character: char, is_plain: bool) -> bool
 pub(crate) fn plain_after(character: char, is_plain: bool) -> bool
     ensures { result ≡ specs.plain_after character is_plain }
 {
-    match u32::from(character) {
-        0x5C => false,
-        0..=0x20 => true,
-        code => is_plain || code >= 128,
+    match character {
+        '\\' => false,
+        '\0'..=' ' => true,
+        _ => is_plain || u32::from(character) >= 128,
     }
 }
 

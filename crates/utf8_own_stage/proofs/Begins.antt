@@ -1,5 +1,6 @@
 -- Of three bytes that are a letter comes the letter: what was held is done, and it is held.
 use lib.Utf8.{scalar}
+use Prim.Native.Char as char
 use Rattle.std.proofs.Common.{◌≡◌, ℕ, ◌+◌, ◌*◌, ◌%◌, ◌≤◌, List, length, get_or, Bool, true, false, ◌&&◌, ◌||◌, ◌==◌, nat_le, nat_lt, if◌then◌else◌, None, Some, refl, sym, ◌∙◌, ap, arith}
 use Rattle.std.proofs.lemmas.Bool.Decides.{nat_tests}
 use Rattle.utf8_own_characters.specs.declared.decoding.Part.{Part}
@@ -40,10 +41,10 @@ second_read l bits b e =
 
 -- ---- a letter beyond ASCII
 
-not_backslash : (c : ℕ) → 128 ≤ c → (c == 0x5C) ≡ false
+not_backslash : (c : ℕ) → 128 ≤ c → (c == char.code "\\") ≡ false
 not_backslash c beyond = grind (arith, nat_tests)
 
-not_low : (c : ℕ) → 128 ≤ c → nat_le c 0x20 ≡ false
+not_low : (c : ℕ) → 128 ≤ c → nat_le c (char.code " ") ≡ false
 not_low c beyond = grind (arith, nat_tests)
 
 not_ascii : (c : ℕ) → 128 ≤ c → nat_lt c 128 ≡ false

@@ -52,7 +52,7 @@ fn takes_marks(byte: u8, is_plain: bool) -> bool
     requires { byte < 128 }
     ensures { result ≡ listening.takes_marks byte is_plain }
 {
-    is_plain && matches!(byte, 0x41..=0x5A | 0x61..=0x7A)
+    is_plain && matches!(byte, b'A'..=b'Z' | b'a'..=b'z' | b'0'..=b'9')
 }
 
 /// Whether letters after it are no names of escapes.
@@ -61,7 +61,7 @@ fn plain_after(byte: u8, is_plain: bool) -> bool
     requires { specs.is_plain byte ≡ true }
     ensures { result ≡ listening.plain_after byte is_plain }
 {
-    byte <= 32 || is_plain
+    byte <= b' ' || is_plain
 }
 
 /// Puts a character.
