@@ -50,7 +50,7 @@ pub enum Kind {
 /// What is wrong with a line.
 #[derive(Clone, Copy)]
 pub struct Complaint {
-    /// What.
+    /// The fault, with the word of the line that it names.
     pub kind: Kind,
     /// The line, from 1 on.
     pub line: u64,

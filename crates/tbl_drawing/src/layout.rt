@@ -18,7 +18,7 @@ use tbl_table::{COLUMNS, LINES, Signs, Span, item_at};
 /// A line of the table, or a request.
 #[derive(Clone, Copy)]
 pub(crate) struct Step {
-    /// What.
+    /// Its kind, and the rows, lines or text that it is of.
     pub kind: StepKind,
     /// The number of its line.
     pub line: usize,
